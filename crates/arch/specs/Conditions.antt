@@ -1,0 +1,58 @@
+-- Each condition by its code and its printed name.
+use Prim.Native.Nat.{ℕ}
+use mathlib.Core.List.{List}
+use lib.Chars.{codes}
+use Rattle.arch.specs.declared.condition.Condition.{Condition}
+use Rattle.arch.specs.declared.condition.Condition.the-variants.{BadNumber, BadPrefix, Unaligned, ShortList, AletSpecification, Addressing, AlenTranslation, AleSequence, AsteValidity, AsteSequence, ExtendedAuthority, LowAddress, AsceType, RegionFirst, RegionSecond, RegionThird, Segment, TranslationSpecification, PageTranslation, AccessList, Page, Key, TooMuch, BadText}
+
+abbrev pub code-of : Condition → List ℕ
+code-of BadNumber = codes "201"
+code-of BadPrefix = codes "202"
+code-of Unaligned = codes "203"
+code-of ShortList = codes "204"
+code-of AletSpecification = codes "28"
+code-of Addressing = codes "5"
+code-of AlenTranslation = codes "29"
+code-of AleSequence = codes "2a"
+code-of AsteValidity = codes "2b"
+code-of AsteSequence = codes "2c"
+code-of ExtendedAuthority = codes "2d"
+code-of LowAddress = codes "4L"
+code-of AsceType = codes "38"
+code-of RegionFirst = codes "39"
+code-of RegionSecond = codes "3a"
+code-of RegionThird = codes "3b"
+code-of Segment = codes "10"
+code-of TranslationSpecification = codes "12"
+code-of PageTranslation = codes "11"
+code-of AccessList = codes "4A"
+code-of Page = codes "4P"
+code-of Key = codes "4K"
+code-of TooMuch = codes "206"
+code-of BadText = codes "205"
+
+abbrev pub name-of : Condition → List ℕ
+name-of BadNumber = codes "bad-number"
+name-of BadPrefix = codes "bad-prefix"
+name-of Unaligned = codes "unaligned"
+name-of ShortList = codes "short-list"
+name-of AletSpecification = codes "ALET-specification"
+name-of Addressing = codes "addressing"
+name-of AlenTranslation = codes "ALEN-translation"
+name-of AleSequence = codes "ALE-sequence"
+name-of AsteValidity = codes "ASTE-validity"
+name-of AsteSequence = codes "ASTE-sequence"
+name-of ExtendedAuthority = codes "extended-authority"
+name-of LowAddress = codes "low-address"
+name-of AsceType = codes "ASCE-type"
+name-of RegionFirst = codes "region-first"
+name-of RegionSecond = codes "region-second"
+name-of RegionThird = codes "region-third"
+name-of Segment = codes "segment"
+name-of TranslationSpecification = codes "translation-specification"
+name-of PageTranslation = codes "page-translation"
+name-of AccessList = codes "access-list"
+name-of Page = codes "page"
+name-of Key = codes "key"
+name-of TooMuch = codes "too-much"
+name-of BadText = codes "bad-text"
