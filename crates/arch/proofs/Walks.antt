@@ -1,0 +1,69 @@
+-- Laws of walks and of their steps.
+use Prim.Native.Nat.{ℕ, _+_, _≤_}
+use mathlib.Core.Path.{_≡_, refl, sym, ap, ap₂, subst, _∙_}
+use mathlib.Core.Bool.{Bool, true, false}
+use mathlib.Core.List.{List, [], _∷_, _++_, append-assoc}
+use native.Mathlib.Nat.{add-zero}
+use native.Mathlib.Omega.{arith}
+use lib.Dec.{ltb}
+use lib.ListN.{length, set, length-append}
+use Rattle.std.specs.declared.option.Option.{Option}
+use Rattle.std.specs.declared.option.Option.the-variants.{Some, None}
+use Rattle.std.specs.declared.result.Result.{Result}
+use Rattle.std.specs.declared.result.Result.the-variants.{Ok, Err}
+use Rattle.arch.specs.declared.condition.Condition.{Condition}
+use Rattle.arch.specs.Walks.{Walk, answers, raises, reads, _>>=_, check, Seen, reading, over, onward, then, written, Stepped, Walked, given, asking}
+
+-- functions that agree everywhere read alike
+reading-next : {A B : Type 0} (at : ℕ) (b : Bool) (v : Option ℕ) (f : ℕ → Seen A) (g : A → Seen B) (h : ℕ → Seen B) → ((w : ℕ) → h w ≡ then (f w) g) → reading at b v h ≡ then (reading at b v f) g
+reading-next at false v f g h same = refl
+reading-next at true None f g h same = refl
+reading-next {A} {B} at true (Some w) f g h same = ap (asking at) (same w) ∙ shift (f w .list) (f w .result)
+  where
+    shift : (l : List ℕ) (r : Result A Condition) → asking at (onward l r g) ≡ onward (at ∷ l) r g
+    shift l (Ok a) = refl
+    shift l (Err c) = refl
+
+-- over a storage, a walk that goes on by another comes to the one and then the other
+pub over-then : {A B : Type 0} (limit : ℕ) (word : ℕ → Option ℕ) (w : Walk A) (k : A → Walk B) → over limit word (w >>= k) ≡ then (over limit word w) (λ a. over limit word (k a))
+over-then limit word (answers a) k = refl
+over-then limit word (raises c) k = refl
+over-then limit word (reads at next) k = reading-next at (ltb at limit) (word at) (λ v. over limit word (next v)) (λ a. over limit word (k a)) (λ v. over limit word (next v >>= k)) (λ v. over-then limit word (next v) k)
+
+-- what is written in two goes
+pub written-append : (places : List ℕ) (from : ℕ) (xs ys : List ℕ) → written places from (xs ++ ys) ≡ written (written places from xs) (from + length xs) ys
+written-append places from [] ys = rw add-zero refl
+written-append places from (x ∷ xs) ys =
+    let shifted : from + 1 + length xs ≡ from + length (x ∷ xs) = omega arith in
+    written-append (set places from x) (from + 1) xs ys ∙ ap (λ n. written (written (set places from x) (from + 1) xs) n ys) shifted
+
+module _ {A B : Type 0} {m : ℕ} {s : Seen A} {before : List ℕ} {from : ℕ} {mid : List ℕ} {at : ℕ} (k : A → Seen B) where
+  -- a step that answers, and one that goes on from there
+  pub step-on : {n : ℕ} {after : List ℕ} {to : ℕ} {r : Result B Condition} {a : A} → Stepped m s before from mid at (Ok a) → Stepped n (k a) mid at after to r → Stepped (m + n) (then s k) before from after to r
+  step-on {n} {after} {to} {r} {a} p q =
+      let whole : onward (s .list) (Ok a) k ≡ then s k = ap (λ o. onward (s .list) o k) (p .result) in
+      subst (λ o. Stepped (m + n) o before from after to r) whole (record {
+        result = q .result;
+        places = q .places ∙ ap₂ (λ l i. written l i (k a .list)) (p .places) (p .used) ∙ sym (written-append before from (s .list) (k a .list));
+        used = q .used ∙ simp length-append (omega (arith, p .used));
+        few = simp length-append (omega (arith, p .few, q .few));
+      })
+
+  -- a step that meets a condition ends the whole
+  pub step-out : (n : ℕ) {c : Condition} → Stepped m s before from mid at (Err c) → Stepped (m + n) (then s k) before from mid at (Err c)
+  step-out n {c} p =
+      let whole : onward (s .list) (Err c) k ≡ then s k = ap (λ o. onward (s .list) o k) (p .result) in
+      subst (λ o. Stepped (m + n) o before from mid at (Err c)) whole (record {
+        result = refl;
+        places = p .places;
+        used = p .used;
+        few = omega (arith, p .few);
+      })
+
+-- the same of two walks over one storage
+module _ {A B : Type 0} {limit : ℕ} {word : ℕ → Option ℕ} {m : ℕ} {before : List ℕ} {from : ℕ} {mid : List ℕ} {at : ℕ} {w : Walk A} (k : A → Walk B) where
+  pub walk-on : {n : ℕ} {after : List ℕ} {to : ℕ} {r : Result B Condition} {a : A} → Walked m limit word w before from mid at (Ok a) → Walked n limit word (k a) mid at after to r → Walked (m + n) limit word (w >>= k) before from after to r
+  walk-on {n} {after} {to} {r} p q = record { stepped = subst (λ o. Stepped (m + n) o before from after to r) (sym (over-then limit word w k)) (step-on (λ a. over limit word (k a)) (p .stepped) (q .stepped)) }
+
+  pub walk-out : (n : ℕ) {c : Condition} → Walked m limit word w before from mid at (Err c) → Walked (m + n) limit word (w >>= k) before from mid at (Err c)
+  walk-out n {c} p = record { stepped = subst (λ o. Stepped (m + n) o before from mid at (Err c)) (sym (over-then limit word w k)) (step-out (λ a. over limit word (k a)) n (p .stepped)) }
