@@ -1,0 +1,4 @@
+pub mod Keyed
+pub mod Prefixes
+pub mod Records
+pub mod Views

@@ -1,0 +1,63 @@
+// The prefix layer over any storage: the 8,192 bytes at 0, and their keys, are exchanged with those at the
+// prefix. Addresses above the layer are real, those beneath it absolute.
+ghost use Prim.Native.Nat.{_+_, _%_, _<_, _^_, _/_};
+ghost use mathlib.Core.Path.{_≡_};
+ghost use Rattle.storage.specs.Keyed.{prefixed-keyed};
+ghost use Rattle.storage.specs.Prefixes.{exchange, prefixed};
+use crate::storage::Storage;
+use arch::condition::Condition;
+
+#[derive(Drop)]
+pub struct Prefixed<S> {
+    pub beneath: S,
+    prefix: u64,
+    ghost lawful: { (prefix % 8192 ≡ 0) × (prefix < 2 ^ 31) },
+}
+
+// The first `n` numbers exchanged with the `n` from `prefix` on.
+fn exchanged(n: u64, prefix: u64, at: u64) -> u64
+    requires { ⌜ n + prefix < 2 ^ 32 ⌝ }
+    ensures { λ r. ⌜ r ≡ exchange n prefix at ⌝ }
+{
+    if at < n {
+        at + prefix
+    } else if at >= prefix && at < prefix + n {
+        at - prefix
+    } else {
+        at
+    }
+}
+
+impl<S> Prefixed<S> {
+    // A layer over `beneath` with the prefix 0, which exchanges nothing.
+    pub fn new(beneath: S) -> Self
+        ensures under { λ r. ⌜ r .beneath ≡ beneath ⌝ }
+        ensures prefix { λ r. ⌜ r .prefix ≡ 0 ⌝ }
+    {
+        Prefixed { beneath, prefix: 0 }
+    }
+
+    pub fn prefix(&self) -> u64
+        ensures { λ r. ⌜ r ≡ now (self .entry) .prefix ⌝ }
+    {
+        self.prefix
+    }
+}
+
+pub impl<S: Storage> Storage for Prefixed<S> as PrefixedStorage {
+    ghost view = { λ s. prefixed (s .prefix) (S·Storage .view (s .beneath)) };
+
+    ghost keyed = { λ s. prefixed-keyed (s .prefix) (S·Storage .view (s .beneath)) (s .lawful .0) (S·Storage .keyed (s .beneath)) };
+
+    fn fetch(&self, address: u64) -> Option<u64> {
+        self.beneath.fetch(exchanged(8192, self.prefix, address))
+    }
+
+    fn key(&self, block: u64) -> Option<u8> {
+        self.beneath.key(exchanged(2, self.prefix / 4096, block))
+    }
+
+    fn put(&mut self, address: u64, value: u64) -> Result<(), Condition> {
+        self.beneath.put(exchanged(8192, self.prefix, address), value)
+    }
+}
