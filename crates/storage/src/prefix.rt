@@ -1,9 +1,12 @@
 // The prefix layer over any storage: the 8,192 bytes at 0, and their keys, are exchanged with those at the
 // prefix. Addresses above the layer are real, those beneath it absolute.
 ghost use Prim.Native.Nat.{_+_, _%_, _<_, _^_, _/_};
+ghost use mathlib.Core.Bool.{cond};
 ghost use mathlib.Core.Path.{_≡_};
+ghost use Rattle.arch.specs.declared.condition.Condition.the-variants.{BadPrefix};
+ghost use Rattle.std.specs.declared.result.Result.the-variants.{Ok, Err};
 ghost use Rattle.storage.specs.Keyed.{prefixed-keyed};
-ghost use Rattle.storage.specs.Prefixes.{exchange, prefixed};
+ghost use Rattle.storage.specs.Prefixes.{exchange, lawful-prefix, prefixed};
 use crate::storage::Storage;
 use arch::condition::Condition;
 
@@ -41,6 +44,19 @@ impl<S> Prefixed<S> {
         ensures { λ r. ⌜ r ≡ now (self .entry) .prefix ⌝ }
     {
         self.prefix
+    }
+
+    // Sets the prefix; refuses what is no multiple of 8,192 below 2^31, and changes nothing then.
+    pub fn set_prefix(&mut self, prefix: u64) -> Result<(), Condition>
+        ensures result { λ r. ⌜ r ≡ cond (lawful-prefix prefix) (Ok tt) (Err BadPrefix) ⌝ }
+        ensures prefix { λ _. ⌜ now (self .exit) .prefix ≡ cond (lawful-prefix prefix) prefix (now (self .entry) .prefix) ⌝ }
+        ensures under { λ _. ⌜ now (self .exit) .beneath ≡ now (self .entry) .beneath ⌝ }
+    {
+        if prefix % 8192 != 0 || prefix >= 1 << 31 {
+            return Err(Condition::BadPrefix);
+        }
+        self.prefix = prefix;
+        Ok(())
     }
 }
 
