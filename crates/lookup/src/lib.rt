@@ -1,0 +1,5 @@
+// The two lookups: an access register's entry to its address space, and a page number to its frame. What
+// a kind of lookup is, what a source of answers is, and the source that always walks the tables.
+pub mod access;
+pub mod page;
+mod step;
