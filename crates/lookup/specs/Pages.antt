@@ -43,14 +43,18 @@ table-of asce = record { origin = bits 0 51 asce * 2 ^ 12; offset = 0; length = 
 abbrev pub outside : Table → ℕ → Bool
 outside t i = ltb (t .length) (i / 2 ^ 9) || ltb (i / 2 ^ 9) (t .offset)
 
--- a valid entry of the table's own type
-abbrev pub table-entry : ℕ → Table → ℕ → Walk ℕ
-table-entry level t page = do
-    check (level-condition level) (outside t (index level page))
-    e ← read (t .origin + 8 * index level page)
+-- a valid entry of the type of its table
+abbrev pub valid-entry : ℕ → ℕ → Walk ℕ
+valid-entry level at = do
+    e ← read at
     check (level-condition level) (bit 58 e)
     check TranslationSpecification (not (eqb (bits 60 61 e) level))
     answers e
+
+abbrev pub table-entry : ℕ → Table → ℕ → Walk ℕ
+table-entry level t page = do
+    check (level-condition level) (outside t (index level page))
+    valid-entry level (t .origin + 8 * index level page)
 
 -- the page entry under a segment entry: the frame, and the two protect bits joined
 abbrev pub page-entry : ℕ → ℕ → Walk PageAnswer

@@ -1,4 +1,18 @@
 // The page lookup.
+ghost use Prim.Native.Nat.{_+_, _*_, _^_, _<_, _≤_};
+ghost use lib.ListN.{length};
+ghost use mathlib.Core.Path.{_≡_};
+ghost use Rattle.arch.specs.Walks.{Walked};
+ghost use Rattle.lookup.specs.Pages.{page-limit, level-condition, index as table-index, outside, valid-entry, table-entry as entry-of, page-entry as final-entry, descend as descending, through-tables as by-tables, page-walk};
+use crate::step::check;
+use crate::step::read;
+use arch::bits::field;
+use arch::bits::flag;
+use arch::condition::Condition;
+use storage::storage::Storage;
+
+// Addresses of translation tables stay below 2^64.
+const LIMIT: u128 = 1 << 64;
 
 // What a page lookup asks for: the address-space-control element and the page number, bits 0-51 of the
 // address.
@@ -21,4 +35,68 @@ struct Table {
     origin: u64,
     offset: u64,
     length: u64,
+}
+
+impl Table {
+    // The index's first two bits lie past the length or before the offset.
+    fn lacks(self, index: u64) -> bool
+        ensures { λ r. ⌜ r ≡ outside self index ⌝ }
+    {
+        let quarter = index / 512;
+        quarter > self.length || quarter < self.offset
+    }
+}
+
+// What is met where a table of a level has no valid entry: 0 segment, 1 to 3 the regions.
+fn condition_of(level: u8) -> Condition
+    ensures { λ r. ⌜ r ≡ level-condition level ⌝ }
+{
+    match level {
+        0 => Condition::Segment,
+        1 => Condition::RegionThird,
+        2 => Condition::RegionSecond,
+        _ => Condition::RegionFirst,
+    }
+}
+
+// The index into a table of a level: 11 bits of the page number.
+fn index(level: u8, page: u64) -> u64
+    requires { ⌜ level < 4 ⌝ }
+    ensures { λ r. ⌜ r ≡ table-index level page ⌝ }
+{
+    (page >> (8 + 11 * level)) % 2048
+}
+
+// A valid entry, of the type of its table.
+fn valid_entry<S: Storage>(storage: &S, level: u8, at: u128, list: &mut [u64], used: &mut usize) -> Result<u64, Condition>
+    requires { ⌜ now used + 1 ≤ length (now list) ⌝ }
+    ensures { λ r. ⌜ Walked 1 page-limit (S·Storage .view (now (storage .entry)) .word) (valid-entry level at) (now (list .entry)) (now (used .entry)) (now (list .exit)) (now (used .exit)) r ⌝ }
+{
+    let entry = read(storage, at, LIMIT, list, used)?;
+    check(condition_of(level), flag(entry, 58))?;
+    check(Condition::TranslationSpecification, field(entry, 60, 61) != u64::from(level))?;
+    Ok(entry)
+}
+
+// The entry of a table that a page number leads to.
+fn table_entry<S: Storage>(storage: &S, level: u8, table: Table, page: u64, list: &mut [u64], used: &mut usize) -> Result<u64, Condition>
+    requires level { ⌜ level < 4 ⌝ }
+    requires room { ⌜ now used + 1 ≤ length (now list) ⌝ }
+    ensures { λ r. ⌜ Walked 1 page-limit (S·Storage .view (now (storage .entry)) .word) (entry-of level table page) (now (list .entry)) (now (used .entry)) (now (list .exit)) (now (used .exit)) r ⌝ }
+{
+    let index = index(level, page);
+    check(condition_of(level), table.lacks(index))?;
+    valid_entry(storage, level, u128::from(table.origin) + 8 * u128::from(index), list, used)
+}
+
+// The page entry under a segment entry.
+fn page_entry<S: Storage>(storage: &S, segment: u64, page: u64, list: &mut [u64], used: &mut usize) -> Result<PageAnswer, Condition>
+    requires { ⌜ now used + 1 ≤ length (now list) ⌝ }
+    ensures { λ r. ⌜ Walked 1 page-limit (S·Storage .view (now (storage .entry)) .word) (final-entry segment page) (now (list .entry)) (now (used .entry)) (now (list .exit)) (now (used .exit)) r ⌝ }
+{
+    let origin = u128::from(field(segment, 0, 52)) * 2048;
+    let entry = read(storage, origin + u128::from(8 * (page % 256)), LIMIT, list, used)?;
+    check(Condition::PageTranslation, flag(entry, 53))?;
+    check(Condition::TranslationSpecification, flag(entry, 52) || flag(entry, 55))?;
+    Ok(PageAnswer { frame: field(entry, 0, 51), protect: flag(segment, 54) || flag(entry, 54) })
 }
