@@ -1,6 +1,6 @@
 -- Single steps of a walk.
 use Prim.Native.Nat.{ℕ}
-use mathlib.Core.Path.{_≡_, refl, sym, ap, subst}
+use mathlib.Core.Path.{_≡_, refl, sym, ap, subst, _∙_}
 use mathlib.Core.Bool.{Bool, true, false}
 use mathlib.Core.List.{List}
 use native.Mathlib.Nat.{add-zero}
@@ -12,10 +12,13 @@ use Rattle.arch.specs.declared.condition.Condition.{Condition}
 use Rattle.arch.specs.Walks.{Walked, answers, read, check}
 use Rattle.lookup.specs.Checks.{checked}
 
--- a tested condition: it reads nothing
-pub check-step : {limit : ℕ} {word : ℕ → Option ℕ} {places : List ℕ} {used : ℕ} {r : Result (Unit {0}) Condition} (c : Condition) (b : Bool) → r ≡ checked c b → Walked 0 limit word (check c b) places used places used r
-check-step c true e = record { stepped = record { result = e; places = refl; used = sym (add-zero _); few = omega arith } }
-check-step c false e = record { stepped = record { result = e; places = refl; used = sym (add-zero _); few = omega arith } }
+-- a tested condition, its test by another term for the same: it reads nothing
+pub check-step : {limit : ℕ} {word : ℕ → Option ℕ} {places : List ℕ} {used : ℕ} {r : Result (Unit {0}) Condition} (c : Condition) (t : Bool) {b : Bool} → r ≡ checked c t → t ≡ b → Walked 0 limit word (check c b) places used places used r
+check-step {limit} {word} {places} {used} {r} c t {b} e same = by b (e ∙ ap (checked c) same)
+  where
+    by : (b : Bool) → r ≡ checked c b → Walked 0 limit word (check c b) places used places used r
+    by true e = record { stepped = record { result = e; places = refl; used = sym (add-zero _); few = omega arith } }
+    by false e = record { stepped = record { result = e; places = refl; used = sym (add-zero _); few = omega arith } }
 
 -- a read at another term for the same address
 pub read-at : {limit : ℕ} {word : ℕ → Option ℕ} {before : List ℕ} {from : ℕ} {after : List ℕ} {to : ℕ} {r : Result ℕ Condition} {at same : ℕ} → at ≡ same → Walked 1 limit word (read at) before from after to r → Walked 1 limit word (read same) before from after to r
