@@ -1,3 +1,4 @@
 pub mod Access
 pub mod Checks
 pub mod Pages
+pub mod Spelling
