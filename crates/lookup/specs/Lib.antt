@@ -2,3 +2,4 @@ pub mod Access
 pub mod Checks
 pub mod Pages
 pub mod Spelling
+pub mod Sources

@@ -4,5 +4,6 @@ pub mod access;
 pub mod kind;
 pub mod kinds;
 pub mod page;
+pub mod source;
 mod step;
 pub mod words;
