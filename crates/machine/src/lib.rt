@@ -1,0 +1,7 @@
+// The machine: its register set, and the calls that it answers over a storage and two sources.
+mod machine;
+mod registers;
+mod space;
+pub use machine::Counted;
+pub use registers::Control;
+pub use registers::Machine;
