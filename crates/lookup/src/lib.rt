@@ -5,5 +5,5 @@ pub mod kind;
 pub mod kinds;
 pub mod page;
 pub mod source;
-mod step;
+pub mod step;
 pub mod words;

@@ -24,7 +24,7 @@ pub(crate) fn read<S: Storage>(storage: &S, at: u128, limit: u128, list: &mut [u
 }
 
 // Meets a condition where it applies.
-pub(crate) fn check(condition: Condition, applies: bool) -> Result<(), Condition>
+pub fn check(condition: Condition, applies: bool) -> Result<(), Condition>
     ensures { λ r. ⌜ r ≡ checked condition applies ⌝ }
 {
     if applies { Err(condition) } else { Ok(()) }

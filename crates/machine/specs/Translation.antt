@@ -87,13 +87,16 @@ real-address frame a = frame % 2 ^ 52 * 2 ^ 12 + a % 2 ^ 12
 abbrev pub page-key : ℕ → ℕ → PageKey
 page-key asce a = record { asce = asce; page = a / 2 ^ 12 }
 
--- through the pages of a space
-abbrev pub by-page : (PageKey → Seen PageAnswer) → Access → AccessAnswer → ℕ → Seen ℕ
-by-page page-asks access space a = do
-    page ← page-asks (page-key (space .asce) a)
+-- from what a page lookup found to the real address
+abbrev pub framed : Access → AccessAnswer → ℕ → PageAnswer → Seen ℕ
+framed access space a page = do
     unless AccessList (is-store access && space .«fetch_only»)
     unless Page (is-store access && page .protect)
     given (real-address (page .frame) a)
+
+-- through the pages of a space
+abbrev pub by-page : (PageKey → Seen PageAnswer) → Access → AccessAnswer → ℕ → Seen ℕ
+by-page page-asks access space a = then (page-asks (page-key (space .asce) a)) (framed access space a)
 
 -- with DAT off the address is real
 abbrev pub real-of : (PageKey → Seen PageAnswer) → Access → Option AccessAnswer → ℕ → Seen ℕ

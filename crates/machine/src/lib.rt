@@ -1,5 +1,6 @@
 // The machine: its register set, and the calls that it answers over a storage and two sources.
 mod machine;
+mod reach;
 mod registers;
 mod space;
 pub use machine::Counted;
