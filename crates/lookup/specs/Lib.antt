@@ -1,5 +1,6 @@
 pub mod Access
 pub mod Checks
+pub mod Lookups
 pub mod Pages
-pub mod Spelling
 pub mod Sources
+pub mod Spelling

@@ -1,9 +1,54 @@
-// The calls.
+// Translation, as a call.
+ghost use Prim.Native.Nat.{_≤_};
+ghost use lib.ListN.{length};
+ghost use mathlib.Core.Bool.{cond, true};
+ghost use mathlib.Core.Path.{_≡_};
+ghost use Rattle.arch.specs.Walks.{written};
+ghost use Rattle.lookup.specs.Access.{access-fits};
+ghost use Rattle.lookup.specs.Lookups.{access-fresh, page-fresh, access-asks, page-asks};
+ghost use Rattle.lookup.specs.Sources.{Kept};
+ghost use Rattle.lookup.specs.Spelling.{page-fits};
+ghost use Rattle.machine.specs.Calls.{Counts, refuses-translation};
+ghost use Rattle.machine.specs.Registers.{registers};
+ghost use Rattle.machine.specs.Translation.{translation};
+ghost use Rattle.storage.specs.Prefixes.{prefixed};
+use crate::registers::Machine;
+use arch::call::Access;
 use arch::condition::Condition;
+use lookup::kinds::AccessRegister;
+use lookup::kinds::Paging;
+use lookup::source::Source;
+use storage::prefix::Prefixed;
+use storage::prefix::PrefixedStorage;
+use storage::storage::Storage;
 
 // What came of a call that lists addresses, and how many it listed.
 #[derive(Clone, Copy)]
 pub struct Counted<T> {
     pub result: Result<T, Condition>,
     pub count: usize,
+}
+
+impl Machine {
+    // Translates an address, for a fetch or a store, by an access register. The addresses asked for are
+    // written to the first places of the list.
+    pub fn translate<S: Storage, A: Source<AccessRegister>, P: Source<Paging>>(&mut self, storage: &mut Prefixed<S>, arts: &mut A, pages: &mut P, access: Access, register: u64, address: u64, list: &mut [u64]) -> Counted<u64>
+        ensures gives { λ r. ⌜ Counts (translation (registers (now (self .entry))) (access-asks (A·Source .shows (now (arts .entry))) (prefixed (now (self .entry) .prefix) (S·Storage .view (now (storage .entry) .beneath)) .word)) (page-asks (P·Source .shows (now (pages .entry))) (prefixed (now (self .entry) .prefix) (S·Storage .view (now (storage .entry) .beneath)) .word)) (prefixed (now (self .entry) .prefix) (S·Storage .view (now (storage .entry) .beneath))) access register address (length (now (list .entry)))) (now (list .entry)) (now (list .exit)) (r .result) (r .count) ⌝ }
+        ensures registers { λ _. ⌜ now (self .exit) ≡ now (self .entry) ⌝ }
+        ensures storage { λ _. ⌜ now (storage .exit) .beneath ≡ now (storage .entry) .beneath ⌝ }
+        ensures arts { λ _. ⌜ Kept access-fits (access-fresh (prefixed (now (self .entry) .prefix) (S·Storage .view (now (storage .entry) .beneath)) .word)) (A·Source .holds (now (arts .entry))) (A·Source .holds (now (arts .exit))) ⌝ }
+        ensures pages { λ _. ⌜ Kept page-fits (page-fresh (prefixed (now (self .entry) .prefix) (S·Storage .view (now (storage .entry) .beneath)) .word)) (P·Source .holds (now (pages .entry))) (P·Source .holds (now (pages .exit))) ⌝ }
+        ensures refused { λ _. ⌜ (refuses-translation register (length (now (list .entry))) ≡ true → (now (storage .exit) ≡ now (storage .entry)) × (now (arts .exit) ≡ now (arts .entry)) × (now (pages .exit) ≡ now (pages .entry))) ⌝ }
+    {
+        if register > 15 {
+            return Counted { result: Err(Condition::BadNumber), count: 0 };
+        }
+        if list.len() < 12 {
+            return Counted { result: Err(Condition::ShortList), count: 0 };
+        }
+        let _ = storage.set_prefix(self.prefix);
+        let mut used = 0;
+        let result = self.reach(storage, arts, pages, access, register as usize, self.cut(address), list, &mut used);
+        Counted { result, count: used }
+    }
 }

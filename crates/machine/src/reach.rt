@@ -3,11 +3,11 @@ ghost use Prim.Native.Nat.{_+_, _≤_, _<_, _^_};
 ghost use lib.ListN.{length};
 ghost use mathlib.Core.List.{[]};
 ghost use mathlib.Core.Path.{_≡_};
-ghost use Rattle.arch.specs.Walks.{over, Stepped};
-ghost use Rattle.lookup.specs.Access.{access-limit, access-walk, access-fits};
-ghost use Rattle.lookup.specs.Pages.{page-limit, page-walk};
+ghost use Rattle.arch.specs.Walks.{Stepped};
+ghost use Rattle.lookup.specs.Access.{access-fits};
+ghost use Rattle.lookup.specs.Lookups.{access-fresh, page-fresh, access-asks, page-asks};
 ghost use Rattle.lookup.specs.Spelling.{page-fits};
-ghost use Rattle.lookup.specs.Sources.{asked, Kept};
+ghost use Rattle.lookup.specs.Sources.{Kept};
 ghost use Rattle.machine.specs.Registers.{registers};
 ghost use Rattle.machine.specs.Translation.{is-store, cut as cutting, low-protected, key-protected, framed as framing, by-page, real-of, reached as reaching, reach as reach-by};
 use crate::registers::Machine;
@@ -55,8 +55,8 @@ fn framed(access: Access, space: AccessAnswer, address: u64, page: PageAnswer) -
 // Through the pages of a space to a real address.
 fn by_pages<S: Storage, P: Source<Paging>>(storage: &S, pages: &mut P, access: Access, space: AccessAnswer, address: u64, list: &mut [u64], used: &mut usize) -> Result<u64, Condition>
     requires { ⌜ now used + 5 ≤ length (now list) ⌝ }
-    ensures gives { λ r. ⌜ Stepped 5 (by-page (λ k. asked (P·Source .shows (now (pages .entry)) k) (over page-limit (S·Storage .view (now (storage .entry)) .word) (page-walk k))) access space address) (now (list .entry)) (now (used .entry)) (now (list .exit)) (now (used .exit)) r ⌝ }
-    ensures keeps { λ _. ⌜ Kept page-fits (λ k. over page-limit (S·Storage .view (now (storage .entry)) .word) (page-walk k)) (P·Source .holds (now (pages .entry))) (P·Source .holds (now (pages .exit))) ⌝ }
+    ensures gives { λ r. ⌜ Stepped 5 (by-page (page-asks (P·Source .shows (now (pages .entry))) (S·Storage .view (now (storage .entry)) .word)) access space address) (now (list .entry)) (now (used .entry)) (now (list .exit)) (now (used .exit)) r ⌝ }
+    ensures keeps { λ _. ⌜ Kept page-fits (page-fresh (S·Storage .view (now (storage .entry)) .word)) (P·Source .holds (now (pages .entry))) (P·Source .holds (now (pages .exit))) ⌝ }
 {
     let page = pages.ask(storage, PageKey { asce: space.asce, page: address / 4096 }, list, used)?;
     framed(access, space, address, page)
@@ -65,8 +65,8 @@ fn by_pages<S: Storage, P: Source<Paging>>(storage: &S, pages: &mut P, access: A
 // With DAT off the address is real.
 fn real_of<S: Storage, P: Source<Paging>>(storage: &S, pages: &mut P, access: Access, space: Option<AccessAnswer>, address: u64, list: &mut [u64], used: &mut usize) -> Result<u64, Condition>
     requires { ⌜ now used + 5 ≤ length (now list) ⌝ }
-    ensures gives { λ r. ⌜ Stepped 5 (real-of (λ k. asked (P·Source .shows (now (pages .entry)) k) (over page-limit (S·Storage .view (now (storage .entry)) .word) (page-walk k))) access space address) (now (list .entry)) (now (used .entry)) (now (list .exit)) (now (used .exit)) r ⌝ }
-    ensures keeps { λ _. ⌜ Kept page-fits (λ k. over page-limit (S·Storage .view (now (storage .entry)) .word) (page-walk k)) (P·Source .holds (now (pages .entry))) (P·Source .holds (now (pages .exit))) ⌝ }
+    ensures gives { λ r. ⌜ Stepped 5 (real-of (page-asks (P·Source .shows (now (pages .entry))) (S·Storage .view (now (storage .entry)) .word)) access space address) (now (list .entry)) (now (used .entry)) (now (list .exit)) (now (used .exit)) r ⌝ }
+    ensures keeps { λ _. ⌜ Kept page-fits (page-fresh (S·Storage .view (now (storage .entry)) .word)) (P·Source .holds (now (pages .entry))) (P·Source .holds (now (pages .exit))) ⌝ }
 {
     match space {
         None => Ok(address),
@@ -102,5 +102,19 @@ impl Machine {
         check(Condition::Addressing, storage.fetch(real / 8 * 8).is_none())?;
         check(Condition::Key, key_protected(self.key, access, storage.key(real / 4096)))?;
         Ok(real)
+    }
+
+    // The whole of a translation, over an address that is cut to its size.
+    pub(crate) fn reach<S: Storage, A: Source<AccessRegister>, P: Source<Paging>>(&self, storage: &S, arts: &mut A, pages: &mut P, access: Access, register: usize, address: u64, list: &mut [u64], used: &mut usize) -> Result<u64, Condition>
+        requires register { ⌜ register < 16 ⌝ }
+        requires room { ⌜ now used + 12 ≤ length (now list) ⌝ }
+        ensures gives { λ r. ⌜ Stepped 12 (reach-by (registers (now (self .entry))) (access-asks (A·Source .shows (now (arts .entry))) (S·Storage .view (now (storage .entry)) .word)) (page-asks (P·Source .shows (now (pages .entry))) (S·Storage .view (now (storage .entry)) .word)) (S·Storage .view (now (storage .entry))) access register address) (now (list .entry)) (now (used .entry)) (now (list .exit)) (now (used .exit)) r ⌝ }
+        ensures arts { λ _. ⌜ Kept access-fits (access-fresh (S·Storage .view (now (storage .entry)) .word)) (A·Source .holds (now (arts .entry))) (A·Source .holds (now (arts .exit))) ⌝ }
+        ensures pages { λ _. ⌜ Kept page-fits (page-fresh (S·Storage .view (now (storage .entry)) .word)) (P·Source .holds (now (pages .entry))) (P·Source .holds (now (pages .exit))) ⌝ }
+    {
+        let space = self.space(storage, arts, register, list, used)?;
+        check(Condition::LowAddress, self.low_protected(access, address))?;
+        let real = real_of(storage, pages, access, space, address, list, used)?;
+        self.reached(storage, access, real)
     }
 }

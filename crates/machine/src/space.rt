@@ -3,9 +3,10 @@ ghost use Prim.Native.Nat.{_+_, _≤_, _<_, _^_};
 ghost use lib.ListN.{length};
 ghost use mathlib.Core.Bool.{false};
 ghost use mathlib.Core.Path.{_≡_};
-ghost use Rattle.arch.specs.Walks.{over, Stepped};
-ghost use Rattle.lookup.specs.Access.{access-limit, access-walk, access-fits};
-ghost use Rattle.lookup.specs.Sources.{asked, Kept};
+ghost use Rattle.arch.specs.Walks.{Stepped};
+ghost use Rattle.lookup.specs.Access.{access-fits};
+ghost use Rattle.lookup.specs.Lookups.{access-fresh, access-asks};
+ghost use Rattle.lookup.specs.Sources.{Kept};
 ghost use Rattle.machine.specs.Registers.{registers};
 ghost use Rattle.machine.specs.Translation.{designation-address, access-key as key-of, space-of-token, space-of-register, space-by-mode};
 ghost use Rattle.std.specs.declared.option.Option.the-variants.{Some};
@@ -38,8 +39,8 @@ impl Machine {
     // The space of a token: 0 the primary, 1 the secondary, any other by lookup.
     fn space_of_token<S: Storage, A: Source<AccessRegister>>(&self, storage: &S, arts: &mut A, alet: u32, list: &mut [u64], used: &mut usize) -> Result<Option<AccessAnswer>, Condition>
         requires { ⌜ now used + 7 ≤ length (now list) ⌝ }
-        ensures gives { λ r. ⌜ Stepped 7 (space-of-token (registers (now (self .entry))) (λ k. asked (A·Source .shows (now (arts .entry)) k) (over access-limit (S·Storage .view (now (storage .entry)) .word) (access-walk k))) alet) (now (list .entry)) (now (used .entry)) (now (list .exit)) (now (used .exit)) r ⌝ }
-        ensures keeps { λ _. ⌜ Kept access-fits (λ k. over access-limit (S·Storage .view (now (storage .entry)) .word) (access-walk k)) (A·Source .holds (now (arts .entry))) (A·Source .holds (now (arts .exit))) ⌝ }
+        ensures gives { λ r. ⌜ Stepped 7 (space-of-token (registers (now (self .entry))) (access-asks (A·Source .shows (now (arts .entry))) (S·Storage .view (now (storage .entry)) .word)) alet) (now (list .entry)) (now (used .entry)) (now (list .exit)) (now (used .exit)) r ⌝ }
+        ensures keeps { λ _. ⌜ Kept access-fits (access-fresh (S·Storage .view (now (storage .entry)) .word)) (A·Source .holds (now (arts .entry))) (A·Source .holds (now (arts .exit))) ⌝ }
     {
         match alet {
             0 => Ok(held_in(self.control.c1)),
@@ -52,8 +53,8 @@ impl Machine {
     fn space_of_register<S: Storage, A: Source<AccessRegister>>(&self, storage: &S, arts: &mut A, register: usize, list: &mut [u64], used: &mut usize) -> Result<Option<AccessAnswer>, Condition>
         requires register { ⌜ register < 16 ⌝ }
         requires room { ⌜ now used + 7 ≤ length (now list) ⌝ }
-        ensures gives { λ r. ⌜ Stepped 7 (space-of-register (registers (now (self .entry))) (λ k. asked (A·Source .shows (now (arts .entry)) k) (over access-limit (S·Storage .view (now (storage .entry)) .word) (access-walk k))) register) (now (list .entry)) (now (used .entry)) (now (list .exit)) (now (used .exit)) r ⌝ }
-        ensures keeps { λ _. ⌜ Kept access-fits (λ k. over access-limit (S·Storage .view (now (storage .entry)) .word) (access-walk k)) (A·Source .holds (now (arts .entry))) (A·Source .holds (now (arts .exit))) ⌝ }
+        ensures gives { λ r. ⌜ Stepped 7 (space-of-register (registers (now (self .entry))) (access-asks (A·Source .shows (now (arts .entry))) (S·Storage .view (now (storage .entry)) .word)) register) (now (list .entry)) (now (used .entry)) (now (list .exit)) (now (used .exit)) r ⌝ }
+        ensures keeps { λ _. ⌜ Kept access-fits (access-fresh (S·Storage .view (now (storage .entry)) .word)) (A·Source .holds (now (arts .entry))) (A·Source .holds (now (arts .exit))) ⌝ }
     {
         if register == 0 {
             return Ok(held_in(self.control.c1));
@@ -65,8 +66,8 @@ impl Machine {
     pub(crate) fn space<S: Storage, A: Source<AccessRegister>>(&self, storage: &S, arts: &mut A, register: usize, list: &mut [u64], used: &mut usize) -> Result<Option<AccessAnswer>, Condition>
         requires register { ⌜ register < 16 ⌝ }
         requires room { ⌜ now used + 7 ≤ length (now list) ⌝ }
-        ensures gives { λ r. ⌜ Stepped 7 (space-by-mode (now (self .entry) .mode) (registers (now (self .entry))) (λ k. asked (A·Source .shows (now (arts .entry)) k) (over access-limit (S·Storage .view (now (storage .entry)) .word) (access-walk k))) register) (now (list .entry)) (now (used .entry)) (now (list .exit)) (now (used .exit)) r ⌝ }
-        ensures keeps { λ _. ⌜ Kept access-fits (λ k. over access-limit (S·Storage .view (now (storage .entry)) .word) (access-walk k)) (A·Source .holds (now (arts .entry))) (A·Source .holds (now (arts .exit))) ⌝ }
+        ensures gives { λ r. ⌜ Stepped 7 (space-by-mode (now (self .entry) .mode) (registers (now (self .entry))) (access-asks (A·Source .shows (now (arts .entry))) (S·Storage .view (now (storage .entry)) .word)) register) (now (list .entry)) (now (used .entry)) (now (list .exit)) (now (used .exit)) r ⌝ }
+        ensures keeps { λ _. ⌜ Kept access-fits (access-fresh (S·Storage .view (now (storage .entry)) .word)) (A·Source .holds (now (arts .entry))) (A·Source .holds (now (arts .exit))) ⌝ }
     {
         match self.mode {
             0 => Ok(None),

@@ -1,0 +1,36 @@
+use mathlib.Core.Path.{_≡_, refl, sym, ap, ap₂, subst, _∙_}
+use borrow.Author.Tests.{le-ltb, clash}
+use mathlib.Core.Bool.{_||_}
+use lib.ListN.{length}
+use Rattle.arch.specs.Walks.{Stepped}
+use Rattle.storage.specs.Views.{View}
+use Rattle.storage.specs.Prefixes.{prefixed}
+use Rattle.lookup.specs.Access.{access-fits}
+use Rattle.lookup.specs.Lookups.{access-fresh, page-fresh, access-asks, page-asks}
+use Rattle.lookup.specs.Sources.{Kept}
+use Rattle.lookup.specs.Spelling.{page-fits}
+use Rattle.machine.specs.Registers.{registers}
+use Rattle.machine.specs.Translation.{reach}
+use Rattle.machine.proofs.Whole.{prefix-set, not-refused, counted}
+use Rattle.machine.proofs.registers.Machine.translate.Needs as need
+
+pub returns : need.returns
+returns g c =
+    let m = c .args .self .now in
+    let shown-a = g .A·Source .shows (c .args .arts .now) in
+    let shown-p = g .P·Source .shows (c .args .pages .now) in
+    let view = prefixed (m .prefix) (g .S·Storage .view (c .args .storage .now .beneath)) in
+    let same : prefixed (c .set-prefix .last .self .prefix) (g .S·Storage .view (c .set-prefix .last .self .beneath)) ≡ view =
+        ap₂ (λ p b. prefixed p (g .S·Storage .view b)) (prefix-set _ (m .prefix) (m .bounds .3) (m .bounds .4) (c .set-prefix .ensures .prefix)) (c .set-prefix .ensures .under) in
+    let step = λ (v : View). Stepped 12 (reach (registers m) (access-asks shown-a (v .word)) (page-asks shown-p (v .word)) v (c .args .access) (c .args .register) (c .cut .result)) (c .args .list .now) 0 (c .reach-result .last .list) (c .reach-result .last .used) (c .reach-result .result) in
+    let reached = subst step same (c .reach-result .ensures .gives) in
+    let plain = not-refused (registers m) (access-asks shown-a (view .word)) (page-asks shown-p (view .word)) view (c .args .access) (c .args .register) (c .args .address) (length (c .args .list .now)) (c .if-register-gt15 .left) (c .if-list-lt12 .left) in
+    let cut = ap (λ a. reach (registers m) (access-asks shown-a (view .word)) (page-asks shown-p (view .word)) view (c .args .access) (c .args .register) a) (sym (c .cut .ensures)) in
+    record {
+      gives = counted (plain ∙ cut) reached;
+      registers = refl;
+      storage = c .set-prefix .ensures .under;
+      arts = subst (λ v. Kept access-fits (access-fresh (v .word)) (g .A·Source .holds (c .args .arts .now)) (g .A·Source .holds (c .reach-result .last .arts))) same (c .reach-result .ensures .arts);
+      pages = subst (λ v. Kept page-fits (page-fresh (v .word)) (g .P·Source .holds (c .args .pages .now)) (g .P·Source .holds (c .reach-result .last .pages))) same (c .reach-result .ensures .pages);
+      refused = λ e. absurd (clash (ap₂ (λ x y. x || y) (sym (le-ltb _ _ (c .if-register-gt15 .left))) (sym (le-ltb _ _ (c .if-list-lt12 .left))) ∙ e));
+    }
