@@ -79,3 +79,8 @@ put-answer v a = cond (eqb (a % 8) 0) (put-result v a) (Err Unaligned)
 
 abbrev pub put-view : View → ℕ → ℕ → View
 put-view v a x = cond (eqb (a % 8) 0) (after-put v a x) v
+
+-- the named source is empty, and the other as it was
+abbrev pub Purged : SourceName → Type 0 → Type 0 → Type 0 → Type 0 → Type 0
+Purged AccessRegister arts-empty arts-same pages-empty pages-same = arts-empty × pages-same
+Purged Page arts-empty arts-same pages-empty pages-same = arts-same × pages-empty

@@ -4,6 +4,7 @@ mod machine;
 mod reach;
 mod registers;
 mod space;
+mod state;
 pub use machine::Counted;
 pub use registers::Control;
 pub use registers::Machine;

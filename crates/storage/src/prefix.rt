@@ -1,12 +1,13 @@
 // The prefix layer over any storage: the 8,192 bytes at 0, and their keys, are exchanged with those at the
 // prefix. Addresses above the layer are real, those beneath it absolute.
 ghost use Prim.Native.Nat.{_+_, _%_, _<_, _^_, _/_};
-ghost use mathlib.Core.Bool.{cond};
+ghost use mathlib.Core.Bool.{cond, false};
 ghost use mathlib.Core.Path.{_≡_};
 ghost use Rattle.arch.specs.declared.condition.Condition.the-variants.{BadPrefix};
 ghost use Rattle.std.specs.declared.result.Result.the-variants.{Ok, Err};
 ghost use Rattle.storage.specs.Keyed.{prefixed-keyed};
 ghost use Rattle.storage.specs.Prefixes.{exchange, lawful-prefix, prefixed};
+ghost use Rattle.storage.specs.Views.{after-put, put-result};
 use crate::storage::Storage;
 use arch::condition::Condition;
 
@@ -51,6 +52,7 @@ impl<S> Prefixed<S> {
         ensures result { λ r. ⌜ r ≡ cond (lawful-prefix prefix) (Ok tt) (Err BadPrefix) ⌝ }
         ensures prefix { λ _. ⌜ now (self .exit) .prefix ≡ cond (lawful-prefix prefix) prefix (now (self .entry) .prefix) ⌝ }
         ensures under { λ _. ⌜ now (self .exit) .beneath ≡ now (self .entry) .beneath ⌝ }
+        ensures refused { λ _. ⌜ (lawful-prefix prefix ≡ false → now (self .exit) ≡ now (self .entry)) ⌝ }
     {
         if prefix % 8192 != 0 || prefix >= 1 << 31 {
             return Err(Condition::BadPrefix);
@@ -73,7 +75,12 @@ pub impl<S: Storage> Storage for Prefixed<S> as PrefixedStorage {
         self.beneath.key(exchanged(2, self.prefix / 4096, block))
     }
 
-    fn put(&mut self, address: u64, value: u64) -> Result<(), Condition> {
+    // The prefix stays.
+    fn put(&mut self, address: u64, value: u64) -> Result<(), Condition>
+        ensures result { λ r. ⌜ r ≡ put-result (prefixed (now (self .entry) .prefix) (S·Storage .view (now (self .entry) .beneath))) address ⌝ }
+        ensures after { λ _. ⌜ prefixed (now (self .exit) .prefix) (S·Storage .view (now (self .exit) .beneath)) ≡ after-put (prefixed (now (self .entry) .prefix) (S·Storage .view (now (self .entry) .beneath))) address value ⌝ }
+        ensures prefix { λ _. ⌜ now (self .exit) .prefix ≡ now (self .entry) .prefix ⌝ }
+    {
         self.beneath.put(exchanged(8192, self.prefix, address), value)
     }
 }
