@@ -1,0 +1,3 @@
+// The reader of run texts.
+mod cut;
+mod number;
