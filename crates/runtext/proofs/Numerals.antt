@@ -6,7 +6,7 @@ use Prim.Native.Nat.{ℕ, zero, suc, _+_, _*_, _/_, _%_, _^_, _≤_, _<_}
 use native.Mathlib.Nat.{pow-suc, pow-le-pow-right}
 use native.Mathlib.Numerals.{add-one}
 use native.Mathlib.Omega.{arith}
-use lib.ListN.{length, getD, length-map}
+use lib.ListN.{length, getD, drop, length-map}
 use Rattle.std.proofs.shelf.Digits.{digitsOf-step, length-digitsOf-le, under-digitsOf, first-digitsOf, same-from-digitsOf}
 use Rattle.std.proofs.shelf.Elements.{all-getD, all-weaker, all-map}
 use Rattle.std.proofs.shelf.Lists.{getD-map, map-push}
@@ -87,3 +87,22 @@ pub lone : (bs : List ℕ) → length bs ≡ 1 → bs ≡ getD bs 0 0 ∷ []
 lone [] h = absurd (omega arith)
 lone (b ∷ []) h = refl
 lone (b ∷ c ∷ bs) h = absurd (omega arith)
+
+map-same : (ds es : List ℕ) → Under 16 ds → Under 16 es → map hexit ds ≡ map hexit es → ds ≡ es
+map-same [] [] u v e = refl
+map-same [] (y ∷ es) u v e = absurd (omega (arith, ap length e))
+map-same (x ∷ ds) [] u v e = absurd (omega (arith, ap length e))
+map-same (x ∷ ds) (y ∷ es) u v e =
+    let h : hexit x ≡ hexit y = ap (λ l. getD l 0 0) e in
+    let t : map hexit ds ≡ map hexit es = ap (drop 1) e in
+    let p = hexit-same x y (u .0) (v .0) h in
+    let q = map-same ds es (u .1) (v .1) t in
+    λ i. p i ∷ q i
+
+pub numeral-same : (m n : ℕ) → numeral m ≡ numeral n → m ≡ n
+unfolding numeral
+numeral-same zero n e = sym (numeral-lead n (ap (λ l. getD l 0 0) (sym e)))
+numeral-same (suc m) zero e = numeral-lead (suc m) (ap (λ l. getD l 0 0) e)
+numeral-same (suc m) (suc n) e =
+    same-from-digitsOf 16 (suc m) (suc n) (omega arith)
+    (map-same _ _ (under-digitsOf 16 (suc m) (omega arith)) (under-digitsOf 16 (suc n) (omega arith)) e)

@@ -1,3 +1,4 @@
 // The reader of run texts.
 mod cut;
+mod line;
 mod number;
