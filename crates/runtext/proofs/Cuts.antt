@@ -12,10 +12,10 @@ use Rattle.runtext.specs.Numerals.{numeral, hexit}
 use Rattle.runtext.specs.Reading.{Lacks, Cut}
 use Rattle.runtext.proofs.Numerals.{numeral-hexit, numeral-same, hexit-least}
 
-head-same : {x y : ℕ} {xs ys : List ℕ} → x ∷ xs ≡ y ∷ ys → x ≡ y
+pub head-same : {x y : ℕ} {xs ys : List ℕ} → x ∷ xs ≡ y ∷ ys → x ≡ y
 head-same e = cc
 
-tail-same : {x y : ℕ} {xs ys : List ℕ} → x ∷ xs ≡ y ∷ ys → xs ≡ ys
+pub tail-same : {x y : ℕ} {xs ys : List ℕ} → x ∷ xs ≡ y ∷ ys → xs ≡ ys
 tail-same e = cc
 
 -- the first place of a byte is one

@@ -1,3 +1,5 @@
 pub mod ByKind
 pub mod Cuts
+pub mod FirstField
+pub mod Lines
 pub mod Numerals
