@@ -3,3 +3,4 @@ pub mod Cuts
 pub mod FirstField
 pub mod Lines
 pub mod Numerals
+pub mod Runs

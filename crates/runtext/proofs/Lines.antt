@@ -60,13 +60,13 @@ letter-least (kind.Call verb.Translate) = omega arith
 letter-least (kind.Call verb.Put) = omega arith
 letter-least (kind.Call verb.Purge) = omega arith
 
-access-same : (a b : Access) → access-letter a ≡ access-letter b → a ≡ b
+pub access-same : (a b : Access) → access-letter a ≡ access-letter b → a ≡ b
 access-same Fetch Fetch e = refl
 access-same Fetch Store e = absurd (omega arith)
 access-same Store Fetch e = absurd (omega arith)
 access-same Store Store e = refl
 
-source-same : (a b : SourceName) → source-letter a ≡ source-letter b → a ≡ b
+pub source-same : (a b : SourceName) → source-letter a ≡ source-letter b → a ≡ b
 source-same AccessRegister AccessRegister e = refl
 source-same AccessRegister Page e = absurd (omega arith)
 source-same Page AccessRegister e = absurd (omega arith)
@@ -98,7 +98,7 @@ fields-lacks (line.Doubleword w) = two-lacks (w .address) (w .value)
 fields-lacks (line.Key k) = two-lacks (k .block) (k .key)
 fields-lacks (line.Call c) = call-lacks c
 
-spell-lacks : (l : Line) → Lacks 10 (spell-fields l)
+pub spell-lacks : (l : Line) → Lacks 10 (spell-fields l)
 spell-lacks l = (λ e. omega (arith, letter-least (kind-of l), e), (λ e. omega arith, fields-lacks l))
 
 -- where the line l begins a text, these are its parts
