@@ -6,9 +6,12 @@ use mathlib.Core.List.{List, [], _∷_, _++_}
 use Prim.Native.Nat.{ℕ, _+_, min, _≤_, _<_}
 use denote.Ref.{RefT}
 use lib.Dec.{eqb, ltb}
-use lib.ListN.{length}
+use lib.ListN.{length, set}
+use Rattle.arch.specs.declared.call.Call.{Call}
 use Rattle.arch.specs.declared.condition.Condition.{Condition}
 use Rattle.arch.specs.declared.condition.Condition.the-variants.{TooMuch, BadText}
+use Rattle.arch.specs.declared.record.BlockKey.{BlockKey}
+use Rattle.arch.specs.declared.record.Word.{Word}
 use Rattle.std.specs.Orderings.{When}
 use Rattle.std.specs.declared.option.Option.{Option}
 use Rattle.runtext.specs.declared.Counts.{Counts}
@@ -16,6 +19,7 @@ use Rattle.runtext.specs.declared.Refusal.{Refusal}
 use Rattle.runtext.specs.declared.line.Kind.{Kind}
 use Rattle.runtext.specs.declared.line.Kind.the-variants as kind
 use Rattle.runtext.specs.declared.line.Line.{Line}
+use Rattle.runtext.specs.declared.line.Line.the-variants as line
 use Rattle.runtext.specs.Lines.{tab, line-end, kind-of, letter, spell-line, Sound}
 use Rattle.runtext.specs.Reading.{Reads}
 use Rattle.runtext.specs.Runs.{Run, lines, spell, counts, Readable, word-limit, key-limit, byte-limit}
@@ -36,12 +40,24 @@ Late found (kind.Call v) = ⊥
 abbrev pub Goes : Counts → Counts → Kind → Type 0
 Goes p found k = (Full p found k → ⊥) × (Late found k → ⊥)
 
+-- these lines and one more
+abbrev pub one-more : Counts → Line → Counts
+one-more found (line.Doubleword w) = record { words = found .words + 1; keys = found .keys; calls = found .calls }
+one-more found (line.Key k) = record { words = found .words; keys = found .keys + 1; calls = found .calls }
+one-more found (line.Call c) = record { words = found .words; keys = found .keys; calls = found .calls + 1 }
+
 -- a line that a text begins with and that may come after these lines, and what follows it
 abbrev pub Steps : Counts → Counts → List ℕ → Option (Line × List ℕ) → Type 0
 Steps p found rest o = Reads o (λ x. Sound (x .0) × Goes p found (kind-of (x .0))) (λ x. spell-line (x .0) ++ x .1) rest
 
 abbrev pub seen : Line × RefT (List ℕ) → Line × List ℕ
 seen x = (x .0, x .1 .now)
+
+-- the three lists after a line was put into its place
+abbrev pub Put-in : Line → Counts → List Word → List BlockKey → List Call → List Word → List BlockKey → List Call → Type 0
+Put-in (line.Doubleword w) found ws ks cs ws′ ks′ cs′ = (ws′ ≡ set ws (found .words) w) × (ks′ ≡ ks) × (cs′ ≡ cs)
+Put-in (line.Key k) found ws ks cs ws′ ks′ cs′ = (ws′ ≡ ws) × (ks′ ≡ set ks (found .keys) k) × (cs′ ≡ cs)
+Put-in (line.Call c) found ws ks cs ws′ ks′ cs′ = (ws′ ≡ ws) × (ks′ ≡ ks) × (cs′ ≡ set cs (found .calls) c)
 
 -- the bytes before the first tab or line end
 abbrev pub first-field : List ℕ → List ℕ

@@ -6,6 +6,7 @@ use arch::condition::ConditionPartialEq;
 mod cut;
 mod line;
 mod number;
+mod scan;
 mod step;
 
 // How many doublewords, keys and calls there are, or places for them.
