@@ -1,5 +1,6 @@
 pub mod ByKind
 pub mod Cuts
+pub mod Filling
 pub mod FirstField
 pub mod Lines
 pub mod Numerals

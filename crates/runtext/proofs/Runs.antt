@@ -36,28 +36,28 @@ call-same (call.LoadControl r v) c e = by-verb (λ c. call-fields c ≡ two r v 
 call-same (call.LoadAccess r v) c e = by-verb (λ c. call-fields c ≡ two r v → c ≡ call.LoadAccess r v) verb.LoadAccess (λ s w f. let t = two-same s w r v f in λ i. call.LoadAccess (t .0 i) (t .1 i)) c e
 call-same (call.LoadMode m s k) c e =
     by-verb (λ c. call-fields c ≡ call-fields (call.LoadMode m s k) → c ≡ call.LoadMode m s k) verb.LoadMode (λ n t l f.
-      let p = cut-same 9 (numeral n) (numeral m) (two t l) (two s k) (numeral-lacks 9 n (omega arith)) (numeral-lacks 9 m (omega arith)) f in
-      let q = numeral-same n m (p .0) in
-      let u = two-same t l s k (p .1) in
-      λ i. call.LoadMode (q i) (u .0 i) (u .1 i)) c e
+    let p = cut-same 9 (numeral n) (numeral m) (two t l) (two s k) (numeral-lacks 9 n (omega arith)) (numeral-lacks 9 m (omega arith)) f in
+    let q = numeral-same n m (p .0) in
+    let u = two-same t l s k (p .1) in
+    λ i. call.LoadMode (q i) (u .0 i) (u .1 i)) c e
 call-same (call.SetPrefix p) c e = by-verb (λ c. call-fields c ≡ numeral p → c ≡ call.SetPrefix p) verb.SetPrefix (λ q f. ap call.SetPrefix (numeral-same q p f)) c e
 call-same (call.Translate a r d) c e =
     by-verb (λ c. call-fields c ≡ call-fields (call.Translate a r d) → c ≡ call.Translate a r d) verb.Translate (λ b s g f.
-      let p = access-same b a (head-same f) in
-      let t = two-same s g r d (tail-same (tail-same f)) in
-      λ i. call.Translate (p i) (t .0 i) (t .1 i)) c e
+    let p = access-same b a (head-same f) in
+    let t = two-same s g r d (tail-same (tail-same f)) in
+    λ i. call.Translate (p i) (t .0 i) (t .1 i)) c e
 call-same (call.Put r v) c e = by-verb (λ c. call-fields c ≡ two r v → c ≡ call.Put r v) verb.Put (λ s w f. let t = two-same s w r v f in λ i. call.Put (t .0 i) (t .1 i)) c e
 call-same (call.Purge s) c e = by-verb (λ c. call-fields c ≡ call-fields (call.Purge s) → c ≡ call.Purge s) verb.Purge (λ t f. ap call.Purge (source-same t s (head-same f))) c e
 
 fields-same : (m l : Line) → kind-of l ≡ kind-of m → fields l ≡ fields m → l ≡ m
 fields-same (line.Doubleword w) l e =
     by-kind (λ l. fields l ≡ fields (line.Doubleword w) → l ≡ line.Doubleword w) kind.Doubleword (λ v f.
-      let t = two-same (v .address) (v .value) (w .address) (w .value) f in
-      λ i. line.Doubleword (record { address = t .0 i; value = t .1 i })) l e
+    let t = two-same (v .address) (v .value) (w .address) (w .value) f in
+    λ i. line.Doubleword (record { address = t .0 i; value = t .1 i })) l e
 fields-same (line.Key k) l e =
     by-kind (λ l. fields l ≡ fields (line.Key k) → l ≡ line.Key k) kind.Key (λ j f.
-      let t = two-same (j .block) (j .key) (k .block) (k .key) f in
-      λ i. line.Key (record { block = t .0 i; key = t .1 i })) l e
+    let t = two-same (j .block) (j .key) (k .block) (k .key) f in
+    λ i. line.Key (record { block = t .0 i; key = t .1 i })) l e
 fields-same (line.Call c) l e =
     by-kind (λ l. fields l ≡ call-fields c → l ≡ line.Call c) (kind.Call (verb-of c)) (λ d g f. ap line.Call (call-same c d g f)) l e
 
@@ -151,6 +151,7 @@ in-front P (x ∷ xs) ys (a ∷ as′) bs z h n e =
   where
     first : x ∷ (xs ++ ys) ≡ a ∷ (as′ ++ (z ∷ bs)) → x ≡ a
     first e = cc
+
     rest : x ∷ (xs ++ ys) ≡ a ∷ (as′ ++ (z ∷ bs)) → xs ++ ys ≡ as′ ++ (z ∷ bs)
     rest e = cc
 
@@ -172,11 +173,10 @@ goes p q r (line.Doubleword w) zs h e =
     let more = grows word-in (lines q) (lines r) zs (line.Doubleword w) e in
     let P : Line → Type 0 = λ l. kind-of l ≡ kind.Doubleword → ⊥ in
     let d = in-front P (map line.Doubleword (q .words)) (map line.Key (q .keys) ++ map line.Call (q .calls)) (lines r) zs (line.Doubleword w)
-          (all-append P (map line.Key (q .keys)) (map line.Call (q .calls)) (all-mapped P line.Key (λ k. apart _ _ (λ e. omega arith)) (q .keys)) (all-mapped P line.Call (λ c. λ e. never c e) (q .calls)))
-          (λ n. n refl) e in
+    (all-append P (map line.Key (q .keys)) (map line.Call (q .calls)) (all-mapped P line.Key (λ k. apart _ _ (λ e. omega arith)) (q .keys)) (all-mapped P line.Call (λ c. λ e. never c e) (q .calls)))
+    (λ n. n refl) e in
     let ks = grows key-in _ (lines r) (d .0) (line.Doubleword w) (d .1) in
-    let cs = grows call-in _ (lines r) (d .0) (line.Doubleword w) (d .1) in
-    (
+    let cs = grows call-in _ (lines r) (d .0) (line.Doubleword w) (d .1) in (
       λ f. omega (arith, more, ap length (words-of-lines q), ap length (words-of-lines r), h .words, h .spellable .words),
       λ f. omega (arith, ks, cs, ap length (joined-map-none key-in line.Doubleword (λ w. refl) (q .words)), ap length (joined-map-none call-in line.Doubleword (λ w. refl) (q .words)), ap length (keys-of-lines r), ap length (calls-of-lines r)),
     )
@@ -187,11 +187,10 @@ goes p q r (line.Key k) zs h e =
     let more = grows key-in (lines q) (lines r) zs (line.Key k) e in
     let P : Line → Type 0 = λ l. kind-of l ≡ kind.Key → ⊥ in
     let d = in-front P (map line.Doubleword (q .words) ++ map line.Key (q .keys)) (map line.Call (q .calls)) (lines r) zs (line.Key k)
-          (all-mapped P line.Call (λ c. λ e. never c e) (q .calls))
-          (λ n. n refl) (append-assoc _ (map line.Key (q .keys)) _ ∙ e) in
+    (all-mapped P line.Call (λ c. λ e. never c e) (q .calls))
+    (λ n. n refl) (append-assoc _ (map line.Key (q .keys)) _ ∙ e) in
     let cs = grows call-in _ (lines r) (d .0) (line.Key k) (d .1) in
-    let none = joined-append call-in (map line.Doubleword (q .words)) (map line.Key (q .keys)) ∙ (λ i. joined-map-none call-in line.Doubleword (λ w. refl) (q .words) i ++ joined-map-none call-in line.Key (λ k. refl) (q .keys) i) in
-    (
+    let none = joined-append call-in (map line.Doubleword (q .words)) (map line.Key (q .keys)) ∙ (λ i. joined-map-none call-in line.Doubleword (λ w. refl) (q .words) i ++ joined-map-none call-in line.Key (λ k. refl) (q .keys) i) in (
       λ f. omega (arith, more, ap length (keys-of-lines q), ap length (keys-of-lines r), h .keys, h .spellable .keys),
       λ f. omega (arith, cs, ap length none, ap length (calls-of-lines r)),
     )
@@ -215,6 +214,7 @@ next-line p q r x h e =
     held : (ls : List Line) (z : Line) (zs : List Line) → All Sound (ls ++ (z ∷ zs)) → Sound z
     held [] z zs a = a .0
     held (l ∷ ls) z zs a = held ls z zs (a .1)
+
     by-lines : (ns : List Line) → lines q ≡ lines r ++ ns → x ≡ joined spell-line ns → (x ≡ []) ⊎ ((l : Line) × (after : List ℕ) × Sound l × Goes p (counts r) (kind-of l) × (spell-line l ++ after ≡ x))
     by-lines [] a b = inl b
     by-lines (z ∷ zs) a b = inr (z, joined spell-line zs, held (lines r) z zs (subst (All Sound) a (h .spellable .sound)), goes p q r z zs h a, sym b)

@@ -6,7 +6,7 @@ use mathlib.Core.List.{List, [], _∷_, _++_}
 use Prim.Native.Nat.{ℕ, _+_, min, _≤_, _<_}
 use denote.Ref.{RefT}
 use lib.Dec.{eqb, ltb}
-use lib.ListN.{length, set}
+use lib.ListN.{length, set, drop}
 use Rattle.arch.specs.declared.call.Call.{Call}
 use Rattle.arch.specs.declared.condition.Condition.{Condition}
 use Rattle.arch.specs.declared.condition.Condition.the-variants.{TooMuch, BadText}
@@ -22,7 +22,7 @@ use Rattle.runtext.specs.declared.line.Line.{Line}
 use Rattle.runtext.specs.declared.line.Line.the-variants as line
 use Rattle.runtext.specs.Lines.{tab, line-end, kind-of, letter, spell-line, Sound}
 use Rattle.runtext.specs.Reading.{Reads}
-use Rattle.runtext.specs.Runs.{Run, lines, spell, counts, Readable, word-limit, key-limit, byte-limit}
+use Rattle.runtext.specs.Runs.{Run, lines, spell, counts, lent, run-in, Readable, Spells, word-limit, key-limit, byte-limit}
 
 -- after these lines no place is left for one of this kind
 abbrev pub Full : Counts → Counts → Kind → Type 0
@@ -99,3 +99,12 @@ pub record Bad-line (p : Counts) (text : List ℕ) (e : Refusal) : Type 0 where
 -- the refusal of a text
 abbrev pub Refused : Counts → List ℕ → Refusal → Type 0
 Refused p text e = When (ltb byte-limit (length text)) ((e .condition ≡ TooMuch) × (e .line ≡ 1)) (Bad-line p text e)
+
+-- the lists after a text was read into them: n of their places have the one run that the text says, and the others are as they were
+pub record Filled (text : List ℕ) (ws : List Word) (ks : List BlockKey) (cs : List Call) (ws′ : List Word) (ks′ : List BlockKey) (cs′ : List Call) (n : Counts) : Type 0 where
+  pub spells : Spells (lent ws ks cs) text (run-in ws′ ks′ cs′ n)
+  pub counted : n ≡ counts (run-in ws′ ks′ cs′ n)
+  pub only : (q : Run) → Spells (lent ws ks cs) text q → q ≡ run-in ws′ ks′ cs′ n
+  pub words : drop (n .words) ws′ ≡ drop (n .words) ws
+  pub keys : drop (n .keys) ks′ ≡ drop (n .keys) ks
+  pub calls : drop (n .calls) cs′ ≡ drop (n .calls) cs

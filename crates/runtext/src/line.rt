@@ -52,7 +52,11 @@ pub enum Verb {
 pub fn lone(field: &[u8]) -> Option<u8>
     ensures { λ r. ⌜ Reads r (λ _. Unit {0}) (λ b. b ∷ []) (now (field .entry)) ⌝ }
 {
-    if field.len() == 1 { Some(field[0]) } else { None }
+    if field.len() == 1 {
+        Some(field[0])
+    } else {
+        None
+    }
 }
 
 // The kind that a letter names.
@@ -119,7 +123,10 @@ fn block_key(bytes: &[u8]) -> Option<Line>
 {
     let (block, key) = two_numbers(bytes)?;
     if key < KEYS {
-        Some(Line::Key(BlockKey { block, key: key as u8 }))
+        Some(Line::Key(BlockKey {
+            block,
+            key: key as u8,
+        }))
     } else {
         None
     }
@@ -141,7 +148,11 @@ fn translate(bytes: &[u8]) -> Option<Call>
     let letter = lone(first)?;
     let access = access_named(letter)?;
     let (register, address) = two_numbers(after?)?;
-    Some(Call::Translate { access, register, address })
+    Some(Call::Translate {
+        access,
+        register,
+        address,
+    })
 }
 
 fn purge(bytes: &[u8]) -> Option<Call>

@@ -5,7 +5,7 @@ ghost use lib.ListN.{length, drop};
 ghost use Rattle.std.specs.Results.{Cases};
 ghost use Rattle.runtext.specs.Lines.{kind-of};
 ghost use Rattle.runtext.specs.Runs.{Run, Spells, lent, run-in, byte-limit};
-ghost use Rattle.runtext.specs.Verdicts.{Full, Bad-line, Put-in, one-more};
+ghost use Rattle.runtext.specs.Verdicts.{Full, Bad-line, Put-in, Filled, one-more};
 use crate::Counts;
 use crate::Refusal;
 use crate::line::Line;
@@ -16,7 +16,11 @@ use arch::call::Call;
 use arch::record::BlockKey;
 use arch::record::Word;
 
-const NO_LINES: Counts = Counts { words: 0, keys: 0, calls: 0 };
+const NO_LINES: Counts = Counts {
+    words: 0,
+    keys: 0,
+    calls: 0,
+};
 
 // These lines and one more.
 fn one_more(found: Counts, line: Line) -> Counts
@@ -24,9 +28,18 @@ fn one_more(found: Counts, line: Line) -> Counts
     ensures { λ r. ⌜ r ≡ one-more found line ⌝ }
 {
     match line {
-        Line::Doubleword(_) => Counts { words: found.words + 1, ..found },
-        Line::Key(_) => Counts { keys: found.keys + 1, ..found },
-        Line::Call(_) => Counts { calls: found.calls + 1, ..found },
+        Line::Doubleword(_) => Counts {
+            words: found.words + 1,
+            ..found
+        },
+        Line::Key(_) => Counts {
+            keys: found.keys + 1,
+            ..found
+        },
+        Line::Call(_) => Counts {
+            calls: found.calls + 1,
+            ..found
+        },
     }
 }
 
@@ -49,7 +62,10 @@ pub fn judge(text: &[u8], places: Counts) -> Result<(), Refusal>
 {
     let mut found = NO_LINES;
     let Some(mut rest) = after_header(text) else {
-        return Err(Refusal { condition: blame(text, places, found), line: 1 });
+        return Err(Refusal {
+            condition: blame(text, places, found),
+            line: 1,
+        });
     };
     while let Some((line, after)) = step(rest, places, found) {
         found = one_more(found, line);
@@ -59,5 +75,31 @@ pub fn judge(text: &[u8], places: Counts) -> Result<(), Refusal>
         return Ok(());
     }
     let line = found.words + found.keys + found.calls + 2;
-    Err(Refusal { condition: blame(rest, places, found), line })
+    Err(Refusal {
+        condition: blame(rest, places, found),
+        line,
+    })
+}
+
+// Puts the run that has this text into the places that are lent.
+pub fn fill(text: &[u8], words: &mut [Word], keys: &mut [BlockKey], calls: &mut [Call]) -> Counts
+    requires short { ⌜ length (now text) ≤ byte-limit ⌝ }
+    requires accepted { ⌜ ((q : Run) × Spells (lent (now words) (now keys) (now calls)) (now text) q) ⌝ }
+    ensures { λ r. ⌜ Filled (now (text .entry)) (now (words .entry)) (now (keys .entry)) (now (calls .entry)) (now (words .exit)) (now (keys .exit)) (now (calls .exit)) r ⌝ }
+{
+    let places = Counts {
+        words: words.len(),
+        keys: keys.len(),
+        calls: calls.len(),
+    };
+    let mut found = NO_LINES;
+    let Some(mut rest) = after_header(text) else {
+        return found;
+    };
+    while let Some((line, after)) = step(rest, places, found) {
+        put(line, found, words, keys, calls);
+        found = one_more(found, line);
+        rest = after;
+    }
+    found
 }

@@ -64,7 +64,11 @@ pub fn blame(rest: &[u8], places: Counts, found: Counts) -> Condition
     let Some(kind) = kind_named(letter) else {
         return Condition::BadText;
     };
-    if full(places, found, kind) { Condition::TooMuch } else { Condition::BadText }
+    if full(places, found, kind) {
+        Condition::TooMuch
+    } else {
+        Condition::BadText
+    }
 }
 
 // The line that `rest` begins with, where it goes on with a run, and what follows it.

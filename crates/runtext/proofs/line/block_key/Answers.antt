@@ -13,4 +13,4 @@ returns-in-Break-block c = rw (c .from-residual .ensures) (λ l v e.
 pub returns-else-key-lt-KEYS : need.returns-else-key-lt-KEYS
 returns-else-key-lt-KEYS c = λ l v e.
     by-kind (λ l. Sound l → fields l ≡ c .args .bytes .now → ⊥) Key (λ k s f.
-      omega (arith, s .1, two-same _ _ (k .block) (k .key) (c .in-Continue-block .ensures tt .1 ∙ sym f) .1)) l (v .1) (v .0) e
+    omega (arith, s .1, two-same _ _ (k .block) (k .key) (c .in-Continue-block .ensures tt .1 ∙ sym f) .1)) l (v .1) (v .0) e

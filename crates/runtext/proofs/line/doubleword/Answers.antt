@@ -13,4 +13,4 @@ returns-in-Break-address c = rw (c .from-residual .ensures) (λ l v e.
 pub returns-else-address-eq0 : need.returns-else-address-eq0
 returns-else-address-eq0 c = λ l v e.
     by-kind (λ l. Sound l → fields l ≡ c .args .bytes .now → ⊥) Doubleword (λ w s f.
-      c .if-address-eq0 .left (ap (λ n. n % 8) (two-same _ _ (w .address) (w .value) (c .in-Continue-address .ensures tt .1 ∙ sym f) .0) ∙ s .2)) l (v .1) (v .0) e
+    c .if-address-eq0 .left (ap (λ n. n % 8) (two-same _ _ (w .address) (w .value) (c .in-Continue-address .ensures tt .1 ∙ sym f) .0) ∙ s .2)) l (v .1) (v .0) e

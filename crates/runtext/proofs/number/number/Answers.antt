@@ -42,12 +42,12 @@ more c =
       small = omega (arith, told .0);
       spelt = spelt;
       positive = ⊎-elim
-        (λ first. ⊎-elim
+          (λ first. ⊎-elim
           (λ z. absurd (c .if-field-eq48-2 .left (sym (ap (λ i. getD (c .args .field .now) i 0) first) ∙ sym spelt ∙ ap hexit z)))
           (λ nz. omega arith)
           (cases-eq (c .from .result) 0))
-        (λ later. omega (arith, c .loop-b .inv .2 (omega arith)))
-        (cases-eq (c .loop-b .b-index) 0);
+          (λ later. omega (arith, c .loop-b .inv .2 (omega arith)))
+          (cases-eq (c .loop-b .b-index) 0);
     }
 
 pub mul-n : need.mul-n
@@ -65,8 +65,7 @@ pub loop-b-again : need.loop-b-again
 loop-b-again c =
     let m = more c in
     let bs = c .args .field .now in
-    let i = c .loop-b .b-index in
-    (
+    let i = c .loop-b .b-index in (
       digits-more (c .loop-b .n) (c .from .result) (m .small) (m .positive) ∙ (λ k. c .loop-b .inv .0 k ++ m .spelt k ∷ []) ∙ sym (take-more bs i 0 (c .loop-b-test .taken)),
       under-more (c .loop-b .n) (c .from .result) i (c .loop-b .inv .1) (m .small),
       λ _. m .positive,
@@ -75,8 +74,7 @@ loop-b-again c =
 pub returns : need.returns
 returns c =
     let bs = c .args .field .now in
-    let whole : length bs ≤ c .loop-b .b-index = omega arith in
-    (
+    let whole : length bs ≤ c .loop-b .b-index = omega arith in (
       under-all (c .loop-b .n) (c .loop-b .b-index) (c .loop-b .inv .1) (omega arith),
       numeral-positive (c .loop-b .n) (c .loop-b .inv .2 (omega arith)) ∙ c .loop-b .inv .0 ∙ take-all (c .loop-b .b-index) bs whole,
     )

@@ -27,8 +27,7 @@ returns-in-Break-after c = rw (c .from-residual-in-Break-after .ensures) (λ x v
 pub returns : need.returns
 returns c =
     let l = c .in-Continue-line .ensures tt in
-    let k = l .0 .1 in
-    (
+    let k = l .0 .1 in (
       (
         l .0 .0,
         (
