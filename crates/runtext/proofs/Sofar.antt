@@ -19,10 +19,12 @@ use Rattle.runtext.specs.declared.Refusal.{Refusal}
 use Rattle.runtext.specs.declared.line.Kind.{Kind}
 use Rattle.runtext.specs.declared.line.Line.{Line}
 use Rattle.runtext.specs.declared.line.Line.the-variants as line
-use Rattle.runtext.specs.Lines.{kind-of, spell-line, Sound}
+use Rattle.runtext.specs.Lines.{kind-of, spell-fields, spell-line, Sound}
+use Rattle.runtext.specs.Reading.{Lacks}
 use Rattle.runtext.specs.Runs.{Run, lines, header, spell, counts, Spellable, Readable, Spells}
 use Rattle.runtext.specs.Verdicts.{Full, Late, Goes, Steps, Blames, Bad-line, one-more, no-lines, first-field, first-line}
-use Rattle.runtext.proofs.FirstField.{line-rest}
+use Rattle.runtext.proofs.FirstField.{line-rest, line-ended}
+use Rattle.runtext.proofs.Lines.{spell-lacks, title, title-lacks}
 use Rattle.runtext.proofs.Runs.{joined-append, next-line}
 
 -- a run with one line more
@@ -149,6 +151,17 @@ module _ {p : Counts} {text : List ℕ} {found : Counts} {rest : List ℕ} {r : 
   pub no-run : 0 < length rest → Steps p found rest None → (q : Run) → Spells p text q → ⊥
   no-run some told q h = stuck some told q (h .0) [] rest some (append-nil rest) (h .1 ∙ sym (s .split))
 
+  -- nor does its text begin so
+  ended-stuck : 0 < length rest → Steps p found rest None → (q : Run) → Readable p q → (more : List ℕ) → (Lacks 10 (first-line rest) → ⊥) → spell q ≡ spell r ++ (first-line rest ++ more) → ⊥
+  ended-stuck some told q h more ended f =
+      let m = line-rest rest in
+      ⊎-elim
+      (λ z. omega (arith, line-some rest some, length-append (first-line rest) more, ap length z))
+      (λ n.
+        let e = line-ended rest (m .0) more (spell-fields (n .0)) (n .1) (m .1) ended (spell-lacks (n .0)) (sym (append-assoc (spell-fields (n .0)) (10 ∷ []) (n .1)) ∙ n .4) in
+        told (n .0, m .0) (n .2, subst (λ m. Goes p m (kind-of (n .0))) (sym (s .counted)) (n .3)) (append-assoc (spell-fields (n .0)) (10 ∷ []) (m .0) ∙ e))
+      (next-line p q r (first-line rest ++ more) h f)
+
   pub bad-line : 0 < length rest → Steps p found rest None → (e : Refusal) → e .line ≡ found .words + found .keys + found .calls + 2 → Blames p found (first-field rest) (e .condition) → Bad-line p text e
   bad-line some told e n b = record {
     front = spell r;
@@ -157,6 +170,7 @@ module _ {p : Counts} {text : List ℕ} {found : Counts} {rest : List ℕ} {r : 
     split = s .split;
     before = inr (r, s .readable, refl, s .counted, omega (arith, n, lines-counted r, ap (λ n. n .words) (s .counted), ap (λ n. n .keys) (s .counted), ap (λ n. n .calls) (s .counted)));
     breaks = λ q h f. let m = line-rest rest in stuck some told q h (m .0) (first-line rest) (line-some rest some) (m .1) f;
+    begins = λ q more h ended f. ended-stuck some told q h more ended f;
     blames = b;
   }
 
@@ -170,6 +184,10 @@ module _ {text : List ℕ} (told : (x : List ℕ) → header ++ x ≡ text → �
   unfolding spell
   begun q more f = told (joined spell-line (lines q) ++ more) f
 
+  ended-first : (q : Run) (more : List ℕ) → (Lacks 10 (first-line text) → ⊥) → spell q ≡ first-line text ++ more → ⊥
+  unfolding spell
+  ended-first q more ended f = let m = line-rest text in told (m .0) (line-ended text (m .0) more title (joined spell-line (lines q)) (m .1) ended title-lacks f)
+
   pub bad-first : (p : Counts) (e : Refusal) → e .line ≡ 1 → Blames p no-lines (first-field text) (e .condition) → Bad-line p text e
   bad-first p e n b = record {
     front = [];
@@ -178,5 +196,6 @@ module _ {text : List ℕ} (told : (x : List ℕ) → header ++ x ≡ text → �
     split = refl;
     before = inl (refl, refl, n);
     breaks = λ q h f. let m = line-rest text in begun q (m .0) (ap (λ t. t ++ m .0) f ∙ m .1);
+    begins = λ q more h ended f. ended-first q more ended f;
     blames = b;
   }

@@ -21,7 +21,7 @@ use Rattle.runtext.specs.declared.line.Kind.the-variants as kind
 use Rattle.runtext.specs.declared.line.Line.{Line}
 use Rattle.runtext.specs.declared.line.Line.the-variants as line
 use Rattle.runtext.specs.Lines.{tab, line-end, kind-of, letter, spell-line, Sound}
-use Rattle.runtext.specs.Reading.{Reads}
+use Rattle.runtext.specs.Reading.{Reads, Lacks}
 use Rattle.runtext.specs.Runs.{Run, lines, spell, counts, lent, run-in, Readable, Spells, word-limit, key-limit, byte-limit}
 
 -- after these lines no place is left for one of this kind
@@ -86,7 +86,7 @@ Before p front found n =
     ((front ≡ []) × (found ≡ no-lines) × (n ≡ 1))
     ⊎ ((r : Run) × Readable p r × (spell r ≡ front) × (found ≡ counts r) × (n ≡ length (lines r) + 2))
 
--- the first line that does not go on with a run: what stands before it does, and with it does not
+-- the first bad line: what stands before it is nothing or the text of a run, with it no run has that text, and no run's text begins so either, unless the line lacks its end
 pub record Bad-line (p : Counts) (text : List ℕ) (e : Refusal) : Type 0 where
   pub front : List ℕ
   pub rest : List ℕ
@@ -94,6 +94,7 @@ pub record Bad-line (p : Counts) (text : List ℕ) (e : Refusal) : Type 0 where
   pub split : front ++ rest ≡ text
   pub before : Before p front found (e .line)
   pub breaks : (r : Run) → Readable p r → spell r ≡ front ++ first-line rest → ⊥
+  pub begins : (r : Run) (more : List ℕ) → Readable p r → (Lacks line-end (first-line rest) → ⊥) → spell r ≡ front ++ (first-line rest ++ more) → ⊥
   pub blames : Blames p found (first-field rest) (e .condition)
 
 -- the refusal of a text
