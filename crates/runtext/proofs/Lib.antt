@@ -4,5 +4,6 @@ pub mod Filling
 pub mod FirstField
 pub mod Lines
 pub mod Numerals
+pub mod OneRefusal
 pub mod Runs
 pub mod Sofar

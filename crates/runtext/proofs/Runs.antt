@@ -61,7 +61,7 @@ fields-same (line.Key k) l e =
 fields-same (line.Call c) l e =
     by-kind (λ l. fields l ≡ call-fields c → l ≡ line.Call c) (kind.Call (verb-of c)) (λ d g f. ap line.Call (call-same c d g f)) l e
 
-line-same : (l m : Line) (x y : List ℕ) → spell-line l ++ x ≡ spell-line m ++ y → (l ≡ m) × (x ≡ y)
+pub line-same : (l m : Line) (x y : List ℕ) → spell-line l ++ x ≡ spell-line m ++ y → (l ≡ m) × (x ≡ y)
 line-same l m x y e =
     let p = cut-same 10 (spell-fields l) (spell-fields m) x y (spell-lacks l) (spell-lacks m) (sym (append-assoc (spell-fields l) (10 ∷ []) x) ∙ e ∙ append-assoc (spell-fields m) (10 ∷ []) y) in
     (fields-same m l (letter-same (kind-of l) (kind-of m) (head-same (p .0))) (tail-same (tail-same (p .0))), p .1)
@@ -127,7 +127,7 @@ calls-of-lines r =
     ∙ (λ i. joined-map-none call-in line.Doubleword (λ w. refl) (r .words) i ++ (joined-map-none call-in line.Key (λ k. refl) (r .keys) i ++ joined-map-all call-in line.Call (λ c. refl) (r .calls) i))
 
 -- lines say one run
-lines-same : (q r : Run) → lines q ≡ lines r → q ≡ r
+pub lines-same : (q r : Run) → lines q ≡ lines r → q ≡ r
 lines-same q r e = λ i. record {
   words = (sym (words-of-lines q) ∙ ap (joined word-in) e ∙ words-of-lines r) i;
   keys = (sym (keys-of-lines q) ∙ ap (joined key-in) e ∙ keys-of-lines r) i;
@@ -167,7 +167,7 @@ apart : (j k : Kind) → (letter j ≡ letter k → ⊥) → j ≡ k → ⊥
 apart j k h e = h (ap letter e)
 
 -- the line after those of a run may come there
-goes : (p : Counts) (q r : Run) (z : Line) (zs : List Line) → Readable p q → lines q ≡ lines r ++ (z ∷ zs) → Goes p (counts r) (kind-of z)
+pub goes : (p : Counts) (q r : Run) (z : Line) (zs : List Line) → Readable p q → lines q ≡ lines r ++ (z ∷ zs) → Goes p (counts r) (kind-of z)
 unfolding word-in key-in call-in
 goes p q r (line.Doubleword w) zs h e =
     let more = grows word-in (lines q) (lines r) zs (line.Doubleword w) e in
@@ -206,15 +206,16 @@ run-goes-on : (q r : Run) (x : List ℕ) → spell q ≡ spell r ++ x → (ns : 
 unfolding spell
 run-goes-on q r x e = go-on (lines r) (lines q) x (ap (drop 6) e)
 
+-- what holds of each line holds of one
+pub held : (ls : List Line) (z : Line) (zs : List Line) → All Sound (ls ++ (z ∷ zs)) → Sound z
+held [] z zs a = a .0
+held (l ∷ ls) z zs a = held ls z zs (a .1)
+
 pub next-line : (p : Counts) (q r : Run) (x : List ℕ) → Readable p q → spell q ≡ spell r ++ x → (x ≡ []) ⊎ ((l : Line) × (after : List ℕ) × Sound l × Goes p (counts r) (kind-of l) × (spell-line l ++ after ≡ x))
 next-line p q r x h e =
     let n = run-goes-on q r x e in
     by-lines (n .0) (n .1) (n .2)
   where
-    held : (ls : List Line) (z : Line) (zs : List Line) → All Sound (ls ++ (z ∷ zs)) → Sound z
-    held [] z zs a = a .0
-    held (l ∷ ls) z zs a = held ls z zs (a .1)
-
     by-lines : (ns : List Line) → lines q ≡ lines r ++ ns → x ≡ joined spell-line ns → (x ≡ []) ⊎ ((l : Line) × (after : List ℕ) × Sound l × Goes p (counts r) (kind-of l) × (spell-line l ++ after ≡ x))
     by-lines [] a b = inl b
     by-lines (z ∷ zs) a b = inr (z, joined spell-line zs, held (lines r) z zs (subst (All Sound) a (h .spellable .sound)), goes p q r z zs h a, sym b)

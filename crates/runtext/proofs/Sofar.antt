@@ -54,7 +54,7 @@ lines-add r (line.Call c) h =
     ap (λ t. ds ++ (ks ++ t)) (map-push line.Call (r .calls) c)
     ∙ sym (append-assoc ds (ks ++ cs) (line.Call c ∷ []) ∙ ap (λ t. ds ++ t) (append-assoc ks cs (line.Call c ∷ [])))
 
-spell-add : (r : Run) (l : Line) → (Late (counts r) (kind-of l) → ⊥) → spell (add r l) ≡ spell r ++ spell-line l
+pub spell-add : (r : Run) (l : Line) → (Late (counts r) (kind-of l) → ⊥) → spell (add r l) ≡ spell r ++ spell-line l
 unfolding spell
 spell-add r l h = ap (λ t. header ++ t) (ap (joined spell-line) (lines-add r l h) ∙ joined-append spell-line (lines r) (l ∷ []) ∙ ap (λ t. joined spell-line (lines r) ++ t) (append-nil (spell-line l)))
 
@@ -73,7 +73,7 @@ pub record Sofar (p : Counts) (text : List ℕ) (found : Counts) (rest : List �
 abbrev pub empty : Run
 empty = record { words = []; keys = []; calls = [] }
 
-spell-empty : spell empty ≡ header
+pub spell-empty : spell empty ≡ header
 unfolding spell
 spell-empty = refl
 
