@@ -10,7 +10,7 @@ use lib.ListN.{length, drop}
 use Rattle.arch.specs.declared.condition.Condition.{Condition}
 use Rattle.arch.specs.declared.condition.Condition.the-variants.{TooMuch, BadText}
 use Rattle.std.proofs.shelf.Fronts.{front-rest}
-use Rattle.std.proofs.shelf.Tests.{ltb-false, ne-eqb, cond-false}
+use Rattle.std.proofs.shelf.Tests.{ltb-false, le-ltb, ne-eqb, cond-false}
 use Rattle.std.specs.Joined.{joined}
 use Rattle.std.specs.Orderings.{When}
 use Rattle.std.specs.shelf.Lists.{All}
@@ -56,7 +56,7 @@ passes p text r q rest rest′ n ns short hr hq sr sq e breaks =
     let ok = held (lines r) n ns (subst (All Sound) e (hq .spellable .sound)) in
     let after : List ℕ = joined spell-line ns ++ rest′ in
     let here : spell r ++ (spell-line n ++ after) ≡ text =
-          ap (λ t. spell r ++ t) (sym (append-assoc (spell-line n) (joined spell-line ns) rest′)) ∙ sym (append-assoc (spell r) (joined spell-line (n ∷ ns)) rest′) ∙ ap (λ t. t ++ rest′) (sym (spell-more q r (n ∷ ns) e)) ∙ sq in
+    ap (λ t. spell r ++ t) (sym (append-assoc (spell-line n) (joined spell-line ns) rest′)) ∙ sym (append-assoc (spell r) (joined spell-line (n ∷ ns)) rest′) ∙ ap (λ t. t ++ rest′) (sym (spell-more q r (n ∷ ns) e)) ∙ sq in
     let is : spell-line n ++ after ≡ rest = sym (front-rest text (spell r) (spell-line n ++ after) (sym here)) ∙ front-rest text (spell r) rest (sym sr) in
     let s : Sofar p text (counts r) rest r = record { split = sr; readable = hr; counted = refl } in
     let t = further s n after short ok g is in
@@ -97,12 +97,12 @@ module _ (p : Counts) (text : List ℕ) (short : length text ≤ 65536) where
       let sy : spell (y .0) ++ rest′ ≡ text = ap (λ t. t ++ rest′) (y .2) ∙ s′ in
       ⊎-elim
       (λ m.
-        let r = lines-same (x .0) (y .0) (m .0) in
-        agree p found found′ rest rest′ e d (x .3 ∙ ap counts r ∙ sym (y .3)) (m .1) (x .4 ∙ ap (λ t. length (lines t) + 2) r ∙ sym (y .4)) a b)
+      let r = lines-same (x .0) (y .0) (m .0) in
+      agree p found found′ rest rest′ e d (x .3 ∙ ap counts r ∙ sym (y .3)) (m .1) (x .4 ∙ ap (λ t. length (lines t) + 2) r ∙ sym (y .4)) a b)
       (λ o. ⊎-elim
-        (λ n. absurd (passes p text (y .0) (x .0) rest′ rest (n .0) (n .1) short (y .1) (x .1) sy sx (n .2) (λ q h f. k′ q h (f ∙ ap (λ t. t ++ first-line rest′) (y .2)))))
-        (λ n. absurd (passes p text (x .0) (y .0) rest rest′ (n .0) (n .1) short (x .1) (y .1) sx sy (n .2) (λ q h f. k q h (f ∙ ap (λ t. t ++ first-line rest) (x .2)))))
-        o)
+      (λ n. absurd (passes p text (y .0) (x .0) rest′ rest (n .0) (n .1) short (y .1) (x .1) sy sx (n .2) (λ q h f. k′ q h (f ∙ ap (λ t. t ++ first-line rest′) (y .2)))))
+      (λ n. absurd (passes p text (x .0) (y .0) rest rest′ (n .0) (n .1) short (x .1) (y .1) sx sy (n .2) (λ q h f. k q h (f ∙ ap (λ t. t ++ first-line rest) (x .2)))))
+      o)
       (compare (lines (x .0)) (lines (y .0)) rest rest′ (spell-apart (x .0) (y .0) rest rest′ (sx ∙ sym sy)))
 
   bad-same : (e d : Refusal) → Bad-line p text e → Bad-line p text d → e ≡ d
@@ -113,6 +113,11 @@ one-refusal p text e d = by-length (ltb 65536 (length text)) refl
   where
     Verdict : Bool → Refusal → Type 0
     Verdict t e = When t ((e .condition ≡ TooMuch) × (e .line ≡ 1)) (Bad-line p text e)
+
     by-length : (t : Bool) → ltb 65536 (length text) ≡ t → Verdict t e → Verdict t d → e ≡ d
     by-length true _ a b = λ i. record { condition = (a .0 ∙ sym (b .0)) i; line = (a .1 ∙ sym (b .1)) i }
     by-length false f a b = bad-same p text (omega (arith, ltb-false 65536 (length text) f)) e d a b
+
+-- a text within the limit is refused by its bad line
+pub refused-short : (p : Counts) (text : List ℕ) (e : Refusal) → length text ≤ 65536 → Bad-line p text e → Refused p text e
+refused-short p text e h b = subst (λ t. When t ((e .condition ≡ TooMuch) × (e .line ≡ 1)) (Bad-line p text e)) (sym (le-ltb 65536 (length text) h)) b

@@ -158,8 +158,8 @@ module _ {p : Counts} {text : List ℕ} {found : Counts} {rest : List ℕ} {r : 
       ⊎-elim
       (λ z. omega (arith, line-some rest some, length-append (first-line rest) more, ap length z))
       (λ n.
-        let e = line-ended rest (m .0) more (spell-fields (n .0)) (n .1) (m .1) ended (spell-lacks (n .0)) (sym (append-assoc (spell-fields (n .0)) (10 ∷ []) (n .1)) ∙ n .4) in
-        told (n .0, m .0) (n .2, subst (λ m. Goes p m (kind-of (n .0))) (sym (s .counted)) (n .3)) (append-assoc (spell-fields (n .0)) (10 ∷ []) (m .0) ∙ e))
+      let e = line-ended rest (m .0) more (spell-fields (n .0)) (n .1) (m .1) ended (spell-lacks (n .0)) (sym (append-assoc (spell-fields (n .0)) (10 ∷ []) (n .1)) ∙ n .4) in
+      told (n .0, m .0) (n .2, subst (λ m. Goes p m (kind-of (n .0))) (sym (s .counted)) (n .3)) (append-assoc (spell-fields (n .0)) (10 ∷ []) (m .0) ∙ e))
       (next-line p q r (first-line rest ++ more) h f)
 
   pub bad-line : 0 < length rest → Steps p found rest None → (e : Refusal) → e .line ≡ found .words + found .keys + found .calls + 2 → Blames p found (first-field rest) (e .condition) → Bad-line p text e

@@ -46,6 +46,7 @@ pub fn read(
 ) -> Result<Counts, Refusal>
     ensures accepted { λ r. ⌜ made r (λ n. Filled (now (text .entry)) (now (words .entry)) (now (keys .entry)) (now (calls .entry)) (now (words .exit)) (now (keys .exit)) (now (calls .exit)) n) ⌝ }
     ensures refused { λ r. ⌜ refused r (λ e. Refused (lent (now (words .entry)) (now (keys .entry)) (now (calls .entry))) (now (text .entry)) e) ⌝ }
+    ensures single { λ r. ⌜ refused r (λ e. (d : Refusal) → Refused (lent (now (words .entry)) (now (keys .entry)) (now (calls .entry))) (now (text .entry)) d → d ≡ e) ⌝ }
     ensures complete { λ r. ⌜ refused r (λ _. (q : Run) → Spells (lent (now (words .entry)) (now (keys .entry)) (now (calls .entry))) (now (text .entry)) q → ⊥) ⌝ }
     ensures unaltered { λ r. ⌜ refused r (λ _. (now (words .exit) ≡ now (words .entry)) × (now (keys .exit) ≡ now (keys .entry)) × (now (calls .exit) ≡ now (calls .entry))) ⌝ }
 {

@@ -1,10 +1,7 @@
 // The lines of a run text, and how one is read.
 ghost use mathlib.Core.Path.{_≡_};
 ghost use mathlib.Core.List.{[], _∷_};
-ghost use Prim.Native.Nat.{_<_};
-ghost use Rattle.std.specs.Options.{isSome};
 ghost use Rattle.runtext.specs.Lines.{letter, access-letter, source-letter, two, call-fields, fields, verb-of, kind-of, Number, Sound-call, Sound};
-ghost use Rattle.runtext.specs.Numerals.{numeral};
 ghost use Rattle.runtext.specs.Reading.{Reads};
 use crate::cut::cut;
 use crate::number::number;

@@ -1,10 +1,10 @@
 // The two passes over a text: the first judges it, the second fills the places that are lent.
 ghost use mathlib.Core.Path.{_≡_};
 ghost use Prim.Native.Nat.{_+_, _≤_};
-ghost use lib.ListN.{length, drop};
+ghost use lib.ListN.{length};
 ghost use Rattle.std.specs.Results.{Cases};
 ghost use Rattle.runtext.specs.Lines.{kind-of};
-ghost use Rattle.runtext.specs.Runs.{Run, Spells, lent, run-in, byte-limit};
+ghost use Rattle.runtext.specs.Runs.{Run, Spells, lent, byte-limit};
 ghost use Rattle.runtext.specs.Verdicts.{Full, Bad-line, Put-in, Filled, one-more};
 use crate::Counts;
 use crate::Refusal;
