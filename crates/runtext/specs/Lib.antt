@@ -1,0 +1,5 @@
+pub mod Lines
+pub mod Numerals
+pub mod Reading
+pub mod Runs
+pub mod Verdicts
