@@ -1,10 +1,12 @@
 // The machine: its register set, and the calls that it answers over a storage and two sources.
 mod load;
 mod machine;
+mod perform;
 mod reach;
 mod registers;
 mod space;
 mod state;
 pub use machine::Counted;
+pub use perform::Outcome;
 pub use registers::Control;
 pub use registers::Machine;
