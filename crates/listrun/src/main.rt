@@ -1,13 +1,19 @@
 // Lists a run: standard input has its text, standard output gets a line for each call that says something.
+ghost use Prim.Native.Nat.{_≤_};
+ghost use lib.ListN.{length};
+ghost use Rattle.std.specs.Vec.{made};
 use arch::call::Call;
 use arch::condition::Condition;
 use arch::record::BlockKey;
 use arch::record::Word;
+use lookup::kinds::AccessRegisterKind;
+use lookup::kinds::PagingKind;
 use lookup::source::TableWalk;
 use lookup::source::TableWalkSource;
 use machine::Counted;
 use machine::Machine;
 use machine::Outcome;
+use runtext::Counts;
 use std::error::AnyError;
 use std::io;
 use std::io::Read;
@@ -24,7 +30,9 @@ const KEYS: usize = 256;
 const CALLS: usize = 16384;
 
 // Reads the input, no further than one byte past the longest text.
-fn input(rt: &LibcRuntime, text: &mut [u8]) -> io::Result<usize> {
+fn input(rt: &LibcRuntime, text: &mut [u8]) -> io::Result<usize>
+    ensures { λ r. ⌜ made r (λ n. n ≤ length (now (text .entry))) ⌝ }
+{
     let mut stdin = rt.stdin();
     let mut filled = 0;
     while filled < text.len() {
@@ -85,8 +93,9 @@ fn list(rt: &LibcRuntime) -> Result<(), AnyError> {
     let length = input(rt, &mut text)?;
     match runtext::read(&text[0..length], &mut words, &mut keys, &mut calls) {
         Ok(n) => {
-            let line = n.words.saturating_add(n.keys).saturating_add(2);
-            run(rt, line, &mut words[0..n.words], &keys[0..n.keys], &calls[0..n.calls])?;
+            let Counts { words: w, keys: k, calls: c } = n;
+            let line = w.saturating_add(k).saturating_add(2);
+            run(rt, line, &mut words[0..w], &keys[0..k], &calls[0..c])?;
         }
         Err(refusal) => refused(rt, refusal.line, refusal.condition, 0)?,
     }

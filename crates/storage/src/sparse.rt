@@ -9,9 +9,9 @@ use arch::record::BlockKey;
 use arch::record::Word;
 
 #[derive(Drop)]
-pub struct Sparse<'a> {
-    pub words: &'a mut [Word],
-    pub keys: &'a [BlockKey],
+pub struct Sparse<'w, 'k> {
+    pub words: &'w mut [Word],
+    pub keys: &'k [BlockKey],
 }
 
 // The value of the first record of `address`.
@@ -38,7 +38,7 @@ fn first_key(keys: &[BlockKey], block: u64) -> Option<u8>
     None
 }
 
-pub impl Storage for Sparse<'_> as SparseStorage {
+pub impl Storage for Sparse<'_, '_> as SparseStorage {
     ghost view = { λ s. sparse-view (now (s .words)) (now (s .keys)) };
 
     ghost keyed = { λ s. sparse-keyed (now (s .words)) (now (s .keys)) };
