@@ -6,13 +6,15 @@ use mathlib.Core.List.{List, [], _∷_, _++_, append-assoc}
 use native.Mathlib.Nat.{add-zero}
 use native.Mathlib.Omega.{arith}
 use lib.Dec.{ltb}
+use borrow.Author.Tests.{clash}
+use Rattle.std.specs.Options.{isSome, valueOr}
 use lib.ListN.{length, set, length-append}
 use Rattle.std.specs.declared.option.Option.{Option}
 use Rattle.std.specs.declared.option.Option.the-variants.{Some, None}
 use Rattle.std.specs.declared.result.Result.{Result}
 use Rattle.std.specs.declared.result.Result.the-variants.{Ok, Err}
 use Rattle.arch.specs.declared.condition.Condition.{Condition}
-use Rattle.arch.specs.Walks.{Walk, answers, raises, reads, _>>=_, check, Seen, reading, over, onward, then, written, Stepped, Walked, given, asking}
+use Rattle.arch.specs.Walks.{Walk, answers, raises, reads, _>>=_, check, Seen, reading, over, onward, then, written, Stepped, Walked, given, asking, Agree, Local}
 
 -- functions that agree everywhere read alike
 reading-next : {A B : Type 0} (at : ℕ) (b : Bool) (v : Option ℕ) (f : ℕ → Seen A) (g : A → Seen B) (h : ℕ → Seen B) → ((w : ℕ) → h w ≡ then (f w) g) → reading at b v h ≡ then (reading at b v f) g
@@ -67,3 +69,29 @@ module _ {A B : Type 0} {limit : ℕ} {word : ℕ → Option ℕ} {m : ℕ} {bef
 
   pub walk-out : (n : ℕ) {c : Condition} → Walked m limit word w before from mid at (Err c) → Walked (m + n) limit word (w >>= k) before from mid at (Err c)
   walk-out n {c} p = record { stepped = subst (λ o. Stepped (m + n) o before from mid at (Err c)) (sym (over-then limit word w k)) (step-out (λ a. over limit word (k a)) n (p .stepped)) }
+
+-- what is listed begins with the address read, and goes on with the rest
+module _ {A : Type 0} (word other : ℕ → Option ℕ) (at : ℕ) (next : ℕ → Seen A) where
+  first-agrees : (t : Bool) (o : Option ℕ) → t ≡ true → Agree word other (reading at t o next .list) → word at ≡ other at
+  first-agrees false o low agree = absurd (clash low)
+  first-agrees true None low agree = agree .0
+  first-agrees true (Some v) low agree = agree .0
+
+  rest-agrees : (t : Bool) (o : Option ℕ) (v : ℕ) → t ≡ true → o ≡ Some v → Agree word other (reading at t o next .list) → Agree word other (next v .list)
+  rest-agrees false o v low here agree = absurd (clash low)
+  rest-agrees true None v low here agree = absurd (clash (ap isSome here))
+  rest-agrees true (Some u) v low here agree = subst (λ x. Agree word other (next x .list)) (ap (λ x. valueOr x 0) here) (agree .1)
+
+-- a walk sees no more than it lists
+reading-local : {A : Type 0} (at : ℕ) (t : Bool) (o p : Option ℕ) (one other : ℕ → Seen A) → (t ≡ true → o ≡ p) → ((v : ℕ) → o ≡ Some v → t ≡ true → other v ≡ one v) → reading at t p other ≡ reading at t o one
+reading-local at false o p one other same rest = refl
+reading-local at true None p one other same rest = ap (λ q. reading at true q other) (sym (same refl))
+reading-local at true (Some v) p one other same rest = ap (λ q. reading at true q other) (sym (same refl)) ∙ ap (asking at) (rest v refl refl)
+
+pub over-local : {A : Type 0} (limit : ℕ) (word : ℕ → Option ℕ) (w : Walk A) → Local limit word w
+over-local limit word (answers a) other agree = refl
+over-local limit word (raises c) other agree = refl
+over-local limit word (reads at next) other agree =
+    reading-local at (ltb at limit) (word at) (other at) (λ v. over limit word (next v)) (λ v. over limit other (next v))
+    (λ low. first-agrees word other at (λ v. over limit word (next v)) (ltb at limit) (word at) low agree)
+    (λ v here low. over-local limit word (next v) other (rest-agrees word other at (λ v. over limit word (next v)) (ltb at limit) (word at) v low here agree))

@@ -1,3 +1,4 @@
 pub mod Bits
 pub mod Conditions
+pub mod Order
 pub mod Walks

@@ -5,6 +5,7 @@ use mathlib.Core.Bool.{Bool, true, false}
 use mathlib.Core.List.{List, [], _∷_, _++_}
 use lib.Dec.{ltb}
 use lib.ListN.{length, set}
+use Rattle.std.specs.shelf.Lists.{All}
 use Rattle.std.specs.declared.option.Option.{Option}
 use Rattle.std.specs.declared.option.Option.the-variants.{Some, None}
 use Rattle.std.specs.declared.result.Result.{Result}
@@ -89,3 +90,12 @@ pub record Stepped {A : Type 0} (most : ℕ) (s : Seen A) (before : List ℕ) (f
 -- The same of a walk over the doublewords of a storage.
 pub record Walked {A : Type 0} (most : ℕ) (limit : ℕ) (word : ℕ → Option ℕ) (w : Walk A) (before : List ℕ) (from : ℕ) (after : List ℕ) (to : ℕ) (r : Result A Condition) : Type 0 where
   pub stepped : Stepped most (over limit word w) before from after to r
+
+-- two storages have the same doublewords at each of these addresses
+abbrev pub Agree : (ℕ → Option ℕ) → (ℕ → Option ℕ) → List ℕ → Type 0
+Agree one other list = All (λ a. one a ≡ other a) list
+
+-- A walk sees no more than it lists: over any storage with the same doublewords there it comes to the same
+-- result and the same list.
+abbrev pub Local : {A : Type 0} → ℕ → (ℕ → Option ℕ) → Walk A → Type 0
+Local limit word w = (other : ℕ → Option ℕ) → Agree word other (over limit word w .list) → over limit other w ≡ over limit word w
