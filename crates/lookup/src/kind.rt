@@ -1,9 +1,12 @@
 // A kind of lookup: what it asks for and what it finds, how both are spelt in two words, and its walk.
 ghost use Prim.Native.Nat.{ℕ, _+_, _≤_};
 ghost use lib.ListN.{length};
+ghost use mathlib.Core.List.{List};
 ghost use mathlib.Core.Path.{_≡_};
-ghost use Rattle.arch.specs.Walks.{Walk, Walked};
+ghost use Rattle.arch.specs.Order.{Row, Ordered};
+ghost use Rattle.arch.specs.Walks.{Walk, Walked, Local};
 ghost use Rattle.lookup.specs.declared.words.Words.{Words};
+ghost use Rattle.std.specs.declared.option.Option.{Option};
 use crate::words::Words;
 use arch::condition::Condition;
 use storage::storage::Storage;
@@ -14,6 +17,11 @@ pub trait Kind {
 
     // The lookup as a tree of reads.
     ghost tree: { Self·Key → Walk Self·Answer };
+
+    // Its conditions as a table, and what it finds where none applies, over the doublewords of a storage.
+    ghost rows: { (ℕ → Option ℕ) → Self·Key → List Row };
+
+    ghost found: { (ℕ → Option ℕ) → Self·Key → Self·Answer };
 
     // Its addresses stay below this one.
     ghost limit: { ℕ };
@@ -36,10 +44,14 @@ pub trait Kind {
     // The words of an answer give it back.
     law back: { (a : Self·Answer) → meant (written a) ≡ a };
 
-    // Walks the tables, noting each address asked for in the places from `used` on.
+    // Walks the tables, noting each address asked for in the places from `used` on. It comes to what it
+    // finds exactly where no condition of its table applies, else to the first that does; and it sees no
+    // more of the storage than it lists.
     fn walk<S: Storage>(storage: &S, key: Self::Key, list: &mut [u64], used: &mut usize) -> Result<Self::Answer, Condition>
         requires { ⌜ now used + most ≤ length (now list) ⌝ }
-        ensures { λ r. ⌜ Walked most limit (S·Storage .view (now (storage .entry)) .word) (tree key) (now (list .entry)) (now (used .entry)) (now (list .exit)) (now (used .exit)) r ⌝ };
+        ensures walked { λ r. ⌜ Walked most limit (S·Storage .view (now (storage .entry)) .word) (tree key) (now (list .entry)) (now (used .entry)) (now (list .exit)) (now (used .exit)) r ⌝ }
+        ensures order { λ r. ⌜ Ordered (rows (S·Storage .view (now (storage .entry)) .word) key) (found (S·Storage .view (now (storage .entry)) .word) key) r ⌝ }
+        ensures sees { λ _. ⌜ Local limit (S·Storage .view (now (storage .entry)) .word) (tree key) ⌝ };
 
     fn spell(key: Self::Key) -> Words
         ensures words { λ r. ⌜ r ≡ spelt key ⌝ }

@@ -1,5 +1,6 @@
 // The two kinds of lookup.
 ghost use Rattle.lookup.specs.Access.{access-limit, access-walk, access-fits};
+ghost use Rattle.lookup.specs.Orders.{access-rows, access-found, paging-rows, paging-found};
 ghost use Rattle.lookup.specs.Pages.{page-limit, page-walk};
 ghost use Rattle.lookup.specs.Spelling.{access-spelt, access-written, access-meant, page-spelt, page-written, page-meant, page-fits};
 use crate::access;
@@ -21,6 +22,10 @@ pub impl Kind for AccessRegister as AccessRegisterKind {
     type Answer = AccessAnswer;
 
     ghost tree = { access-walk };
+
+    ghost rows = { access-rows };
+
+    ghost found = { access-found };
 
     ghost limit = { access-limit };
 
@@ -59,6 +64,10 @@ pub impl Kind for Paging as PagingKind {
     type Answer = PageAnswer;
 
     ghost tree = { page-walk };
+
+    ghost rows = { paging-rows };
+
+    ghost found = { paging-found };
 
     ghost limit = { page-limit };
 
