@@ -25,3 +25,8 @@ Kept {Key} {Answer} fits fresh before after = (k : Key) (a : Answer) → fits k 
 -- no pair is held
 abbrev pub Empty : {Key Answer : Type 0} → (Key → Answer → Type 0) → Type 0
 Empty {Key} {Answer} holds = (k : Key) (a : Answer) → holds k a → ⊥
+
+-- the state of a source after a call that asked it for this key, or did not ask it
+abbrev pub Moved : {Key State : Type 0} → Option Key → (Key → State → Type 0) → State → State → Type 0
+Moved None moves before after = after ≡ before
+Moved (Some k) moves before after = moves k after

@@ -7,6 +7,8 @@ use lib.ListN.{getD}
 use Rattle.std.specs.Options.{isSome}
 use Rattle.std.specs.declared.option.Option.{Option}
 use Rattle.std.specs.declared.option.Option.the-variants.{Some, None}
+use Rattle.std.specs.declared.result.Result.{Result}
+use Rattle.std.specs.declared.result.Result.the-variants.{Ok, Err}
 use Rattle.arch.specs.Bits.{bits, bit}
 use Rattle.arch.specs.Walks.{Seen, given, refused, then}
 use Rattle.arch.specs.declared.call.Access.{Access}
@@ -55,15 +57,24 @@ access-key r alet = record { alet = alet; eax = bits 32 47 (r .control .c8); des
 abbrev pub held-in : ℕ → Seen (Option AccessAnswer)
 held-in asce = given (Some (record { asce = asce; «fetch_only» = false }))
 
+-- a space by lookup
+abbrev pub looked-up : (AccessKey → Seen AccessAnswer) → AccessKey → Seen (Option AccessAnswer)
+looked-up access-asks k = then (access-asks k) (λ a. given (Some a))
+
 -- the space of a token: 0 the primary, 1 the secondary, any other by lookup
 abbrev pub space-of-token : Registers → (AccessKey → Seen AccessAnswer) → ℕ → Seen (Option AccessAnswer)
-space-of-token r access-asks zero = held-in (r .control .c1)
-space-of-token r access-asks (suc zero) = held-in (r .control .c7)
-space-of-token r access-asks (suc (suc n)) = then (access-asks (access-key r (suc (suc n)))) (λ a. given (Some a))
+space-of-token r access-asks alet = cond (eqb alet 0) (held-in (r .control .c1)) (cond (eqb alet 1) (held-in (r .control .c7)) (looked-up access-asks (access-key r alet)))
+
+-- the key that a token asks the access-register source for
+abbrev pub token-asks : Registers → ℕ → Option AccessKey
+token-asks r alet = cond (eqb alet 0) None (cond (eqb alet 1) None (Some (access-key r alet)))
 
 -- access register 0 stands for the primary space, whatever it holds
 abbrev pub space-of-register : Registers → (AccessKey → Seen AccessAnswer) → ℕ → Seen (Option AccessAnswer)
 space-of-register r access-asks register = cond (eqb register 0) (held-in (r .control .c1)) (space-of-token r access-asks (getD (r .access) register 0))
+
+abbrev pub register-asks : Registers → ℕ → Option AccessKey
+register-asks r register = cond (eqb register 0) None (token-asks r (getD (r .access) register 0))
 
 -- the address space by mode, none with DAT off
 abbrev pub space-by-mode : ℕ → Registers → (AccessKey → Seen AccessAnswer) → ℕ → Seen (Option AccessAnswer)
@@ -72,6 +83,13 @@ space-by-mode (suc zero) r access-asks register = held-in (r .control .c1)
 space-by-mode (suc (suc zero)) r access-asks register = space-of-register r access-asks register
 space-by-mode (suc (suc (suc zero))) r access-asks register = held-in (r .control .c7)
 space-by-mode (suc (suc (suc (suc n)))) r access-asks register = held-in (r .control .c13)
+
+-- only access-register mode asks the access-register source
+abbrev pub mode-asks : ℕ → Registers → ℕ → Option AccessKey
+mode-asks zero r register = None
+mode-asks (suc zero) r register = None
+mode-asks (suc (suc zero)) r register = register-asks r register
+mode-asks (suc (suc (suc n))) r register = None
 
 -- addresses 0-1ff and 1000-11ff
 abbrev pub is-low : ℕ → Bool
@@ -102,6 +120,16 @@ by-page page-asks access space a = then (page-asks (page-key (space .asce) a)) (
 abbrev pub real-of : (PageKey → Seen PageAnswer) → Access → Option AccessAnswer → ℕ → Seen ℕ
 real-of page-asks access None a = given a
 real-of page-asks access (Some space) a = by-page page-asks access space a
+
+-- the key that a space asks the page source for
+abbrev pub space-asks : Option AccessAnswer → ℕ → Option PageKey
+space-asks None a = None
+space-asks (Some space) a = Some (page-key (space .asce) a)
+
+-- the page source is asked once the space is found and low-address protection does not apply
+abbrev pub page-asked : Registers → Access → ℕ → Result (Option AccessAnswer) Condition → Option PageKey
+page-asked r access a (Ok space) = cond (low-protected r access a) None (space-asks space a)
+page-asked r access a (Err c) = None
 
 -- the access key is neither zero nor the block's access control, for a store or with the fetch bit one
 abbrev pub key-protected : ℕ → Access → Option ℕ → Bool

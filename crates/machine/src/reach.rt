@@ -7,9 +7,10 @@ ghost use Rattle.arch.specs.Walks.{Stepped};
 ghost use Rattle.lookup.specs.Access.{access-fits};
 ghost use Rattle.lookup.specs.Lookups.{access-fresh, page-fresh, access-asks, page-asks};
 ghost use Rattle.lookup.specs.Spelling.{page-fits};
-ghost use Rattle.lookup.specs.Sources.{Kept};
+ghost use Rattle.lookup.specs.Sources.{Kept, Moved};
 ghost use Rattle.machine.specs.Registers.{registers};
-ghost use Rattle.machine.specs.Translation.{is-store, cut as cutting, low-protected, key-protected, framed as framing, by-page, real-of, reached as reaching, reach as reach-by};
+ghost use Rattle.machine.specs.Translation.{is-store, cut as cutting, low-protected, key-protected, framed as framing, by-page, real-of, reached as reaching, reach as reach-by, page-key, space-asks, page-asked, mode-asks, space-by-mode};
+ghost use Rattle.std.specs.declared.option.Option.the-variants.{Some};
 use crate::registers::Machine;
 use arch::bits::flag;
 use arch::call::Access;
@@ -57,6 +58,7 @@ fn by_pages<S: Storage, P: Source<Paging>>(storage: &S, pages: &mut P, access: A
     requires { ⌜ now used + 5 ≤ length (now list) ⌝ }
     ensures gives { λ r. ⌜ Stepped 5 (by-page (page-asks (P·Source .shows (now (pages .entry))) (S·Storage .view (now (storage .entry)) .word)) access space address) (now (list .entry)) (now (used .entry)) (now (list .exit)) (now (used .exit)) r ⌝ }
     ensures keeps { λ _. ⌜ Kept page-fits (page-fresh (S·Storage .view (now (storage .entry)) .word)) (P·Source .holds (now (pages .entry))) (P·Source .holds (now (pages .exit))) ⌝ }
+    ensures moves { λ _. ⌜ Moved (Some (page-key (space .asce) address)) (P·Source .moves (now (pages .entry)) (page-fresh (S·Storage .view (now (storage .entry)) .word))) (now (pages .entry)) (now (pages .exit)) ⌝ }
 {
     let page = pages.ask(storage, PageKey { asce: space.asce, page: address / 4096 }, list, used)?;
     framed(access, space, address, page)
@@ -67,6 +69,7 @@ fn real_of<S: Storage, P: Source<Paging>>(storage: &S, pages: &mut P, access: Ac
     requires { ⌜ now used + 5 ≤ length (now list) ⌝ }
     ensures gives { λ r. ⌜ Stepped 5 (real-of (page-asks (P·Source .shows (now (pages .entry))) (S·Storage .view (now (storage .entry)) .word)) access space address) (now (list .entry)) (now (used .entry)) (now (list .exit)) (now (used .exit)) r ⌝ }
     ensures keeps { λ _. ⌜ Kept page-fits (page-fresh (S·Storage .view (now (storage .entry)) .word)) (P·Source .holds (now (pages .entry))) (P·Source .holds (now (pages .exit))) ⌝ }
+    ensures moves { λ _. ⌜ Moved (space-asks space address) (P·Source .moves (now (pages .entry)) (page-fresh (S·Storage .view (now (storage .entry)) .word))) (now (pages .entry)) (now (pages .exit)) ⌝ }
 {
     match space {
         None => Ok(address),
@@ -110,7 +113,9 @@ impl Machine {
         requires room { ⌜ now used + 12 ≤ length (now list) ⌝ }
         ensures gives { λ r. ⌜ Stepped 12 (reach-by (registers (now (self .entry))) (access-asks (A·Source .shows (now (arts .entry))) (S·Storage .view (now (storage .entry)) .word)) (page-asks (P·Source .shows (now (pages .entry))) (S·Storage .view (now (storage .entry)) .word)) (S·Storage .view (now (storage .entry))) access register address) (now (list .entry)) (now (used .entry)) (now (list .exit)) (now (used .exit)) r ⌝ }
         ensures arts { λ _. ⌜ Kept access-fits (access-fresh (S·Storage .view (now (storage .entry)) .word)) (A·Source .holds (now (arts .entry))) (A·Source .holds (now (arts .exit))) ⌝ }
+        ensures arts_moved { λ _. ⌜ Moved (mode-asks (now (self .entry) .mode) (registers (now (self .entry))) register) (A·Source .moves (now (arts .entry)) (access-fresh (S·Storage .view (now (storage .entry)) .word))) (now (arts .entry)) (now (arts .exit)) ⌝ }
         ensures pages { λ _. ⌜ Kept page-fits (page-fresh (S·Storage .view (now (storage .entry)) .word)) (P·Source .holds (now (pages .entry))) (P·Source .holds (now (pages .exit))) ⌝ }
+        ensures pages_moved { λ _. ⌜ Moved (page-asked (registers (now (self .entry))) access address (space-by-mode (now (self .entry) .mode) (registers (now (self .entry))) (access-asks (A·Source .shows (now (arts .entry))) (S·Storage .view (now (storage .entry)) .word)) register .result)) (P·Source .moves (now (pages .entry)) (page-fresh (S·Storage .view (now (storage .entry)) .word))) (now (pages .entry)) (now (pages .exit)) ⌝ }
     {
         let space = self.space(storage, arts, register, list, used)?;
         check(Condition::LowAddress, self.low_protected(access, address))?;

@@ -6,9 +6,9 @@ ghost use mathlib.Core.Path.{_≡_};
 ghost use Rattle.arch.specs.Walks.{Stepped};
 ghost use Rattle.lookup.specs.Access.{access-fits};
 ghost use Rattle.lookup.specs.Lookups.{access-fresh, access-asks};
-ghost use Rattle.lookup.specs.Sources.{Kept};
+ghost use Rattle.lookup.specs.Sources.{Kept, Moved};
 ghost use Rattle.machine.specs.Registers.{registers};
-ghost use Rattle.machine.specs.Translation.{designation-address, access-key as key-of, space-of-token, space-of-register, space-by-mode};
+ghost use Rattle.machine.specs.Translation.{designation-address, access-key as key-of, looked-up, space-of-token, space-of-register, space-by-mode, token-asks, register-asks, mode-asks};
 ghost use Rattle.std.specs.declared.option.Option.the-variants.{Some};
 use crate::registers::Machine;
 use arch::bits::field;
@@ -27,6 +27,17 @@ fn held_in(asce: u64) -> Option<AccessAnswer>
     Some(AccessAnswer { asce, fetch_only: false })
 }
 
+// A space by lookup.
+fn looked_up<S: Storage, A: Source<AccessRegister>>(storage: &S, arts: &mut A, key: AccessKey, list: &mut [u64], used: &mut usize) -> Result<Option<AccessAnswer>, Condition>
+    requires { ⌜ now used + 7 ≤ length (now list) ⌝ }
+    ensures gives { λ r. ⌜ Stepped 7 (looked-up (access-asks (A·Source .shows (now (arts .entry))) (S·Storage .view (now (storage .entry)) .word)) key) (now (list .entry)) (now (used .entry)) (now (list .exit)) (now (used .exit)) r ⌝ }
+    ensures keeps { λ _. ⌜ Kept access-fits (access-fresh (S·Storage .view (now (storage .entry)) .word)) (A·Source .holds (now (arts .entry))) (A·Source .holds (now (arts .exit))) ⌝ }
+    ensures moves { λ _. ⌜ A·Source .moves (now (arts .entry)) (access-fresh (S·Storage .view (now (storage .entry)) .word)) key (now (arts .exit)) ⌝ }
+{
+    let found = arts.ask(storage, key, list, used)?;
+    Ok(Some(found))
+}
+
 impl Machine {
     // What a token asks of the access-register lookup.
     fn access_key(&self, alet: u32) -> AccessKey
@@ -41,12 +52,15 @@ impl Machine {
         requires { ⌜ now used + 7 ≤ length (now list) ⌝ }
         ensures gives { λ r. ⌜ Stepped 7 (space-of-token (registers (now (self .entry))) (access-asks (A·Source .shows (now (arts .entry))) (S·Storage .view (now (storage .entry)) .word)) alet) (now (list .entry)) (now (used .entry)) (now (list .exit)) (now (used .exit)) r ⌝ }
         ensures keeps { λ _. ⌜ Kept access-fits (access-fresh (S·Storage .view (now (storage .entry)) .word)) (A·Source .holds (now (arts .entry))) (A·Source .holds (now (arts .exit))) ⌝ }
+        ensures moves { λ _. ⌜ Moved (token-asks (registers (now (self .entry))) alet) (A·Source .moves (now (arts .entry)) (access-fresh (S·Storage .view (now (storage .entry)) .word))) (now (arts .entry)) (now (arts .exit)) ⌝ }
     {
-        match alet {
-            0 => Ok(held_in(self.control.c1)),
-            1 => Ok(held_in(self.control.c7)),
-            _ => Ok(Some(arts.ask(storage, self.access_key(alet), list, used)?)),
+        if alet == 0 {
+            return Ok(held_in(self.control.c1));
         }
+        if alet == 1 {
+            return Ok(held_in(self.control.c7));
+        }
+        looked_up(storage, arts, self.access_key(alet), list, used)
     }
 
     // Access register 0 stands for the primary space, whatever it holds.
@@ -55,6 +69,7 @@ impl Machine {
         requires room { ⌜ now used + 7 ≤ length (now list) ⌝ }
         ensures gives { λ r. ⌜ Stepped 7 (space-of-register (registers (now (self .entry))) (access-asks (A·Source .shows (now (arts .entry))) (S·Storage .view (now (storage .entry)) .word)) register) (now (list .entry)) (now (used .entry)) (now (list .exit)) (now (used .exit)) r ⌝ }
         ensures keeps { λ _. ⌜ Kept access-fits (access-fresh (S·Storage .view (now (storage .entry)) .word)) (A·Source .holds (now (arts .entry))) (A·Source .holds (now (arts .exit))) ⌝ }
+        ensures moves { λ _. ⌜ Moved (register-asks (registers (now (self .entry))) register) (A·Source .moves (now (arts .entry)) (access-fresh (S·Storage .view (now (storage .entry)) .word))) (now (arts .entry)) (now (arts .exit)) ⌝ }
     {
         if register == 0 {
             return Ok(held_in(self.control.c1));
@@ -68,6 +83,7 @@ impl Machine {
         requires room { ⌜ now used + 7 ≤ length (now list) ⌝ }
         ensures gives { λ r. ⌜ Stepped 7 (space-by-mode (now (self .entry) .mode) (registers (now (self .entry))) (access-asks (A·Source .shows (now (arts .entry))) (S·Storage .view (now (storage .entry)) .word)) register) (now (list .entry)) (now (used .entry)) (now (list .exit)) (now (used .exit)) r ⌝ }
         ensures keeps { λ _. ⌜ Kept access-fits (access-fresh (S·Storage .view (now (storage .entry)) .word)) (A·Source .holds (now (arts .entry))) (A·Source .holds (now (arts .exit))) ⌝ }
+        ensures moves { λ _. ⌜ Moved (mode-asks (now (self .entry) .mode) (registers (now (self .entry))) register) (A·Source .moves (now (arts .entry)) (access-fresh (S·Storage .view (now (storage .entry)) .word))) (now (arts .entry)) (now (arts .exit)) ⌝ }
     {
         match self.mode {
             0 => Ok(None),
