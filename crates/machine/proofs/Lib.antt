@@ -1,2 +1,3 @@
+pub mod InOrder
 pub mod Steps
 pub mod Whole
