@@ -30,3 +30,7 @@ Empty {Key} {Answer} holds = (k : Key) (a : Answer) → holds k a → ⊥
 abbrev pub Moved : {Key State : Type 0} → Option Key → (Key → State → Type 0) → State → State → Type 0
 Moved None moves before after = after ≡ before
 Moved (Some k) moves before after = moves k after
+
+-- nothing is shown
+abbrev pub Silent : {Key Answer : Type 0} → (Key → Option Answer) → Type 0
+Silent {Key} shows = (k : Key) → shows k ≡ None

@@ -19,6 +19,7 @@ use Rattle.lookup.specs.declared.access.AccessKey.{AccessKey}
 use Rattle.lookup.specs.declared.access.AccessAnswer.{AccessAnswer}
 use Rattle.lookup.specs.declared.page.PageAnswer.{PageAnswer}
 use Rattle.lookup.specs.Lookups.{access-fresh, page-fresh}
+use Rattle.lookup.specs.Sources.{asked, Silent}
 use Rattle.lookup.specs.Orders.{access-rows, access-found, paging-rows, paging-found}
 use Rattle.lookup.proofs.InOrder.{access-ordered, paging-ordered}
 use Rattle.machine.specs.Registers.{Registers}
@@ -85,3 +86,7 @@ translation-ordered r view access register address places =
     let all = ordered-then (space-by-mode (r .mode) r (access-fresh word) register) (λ space. then (unless LowAddress (low-protected r access a)) (λ _. then (real-of (page-fresh word) access space a) (λ real. reached r view access real))) (lookup-rows word (mode-asks (r .mode) r register)) mid space real (mode-ordered word r (r .mode) register) middle in
     unless-first BadNumber (ltb 15 register) (then (unless ShortList (ltb places 12)) (λ _. reach r (access-fresh word) (page-fresh word) view access register a)) (row ShortList (ltb places 12) ∷ whole) real
     (unless-first ShortList (ltb places 12) (reach r (access-fresh word) (page-fresh word) view access register a) whole real all)
+
+-- sources that show nothing give what is walked afresh
+pub silent-asks : {Key Answer : Type 0} (shows : Key → Option Answer) (fresh : Key → Seen Answer) → Silent shows → (λ k. asked (shows k) (fresh k)) ≡ fresh
+silent-asks shows fresh none = fun-ext (λ k. ap (λ o. asked o (fresh k)) (none k))
