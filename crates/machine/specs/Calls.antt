@@ -15,7 +15,7 @@ use Rattle.arch.specs.declared.condition.Condition.{Condition}
 use Rattle.arch.specs.declared.condition.Condition.the-variants.{BadNumber, Unaligned}
 use Rattle.arch.specs.Walks.{Seen, written}
 use Rattle.storage.specs.Views.{View, after-put, put-result}
-use Rattle.storage.specs.Prefixes.{lawful-prefix}
+use Rattle.storage.specs.Prefixes.{exchange, lawful-prefix}
 use Rattle.machine.specs.declared.registers.Control.{Control}
 use Rattle.machine.specs.Registers.{Registers}
 
@@ -79,6 +79,10 @@ put-answer v a = cond (eqb (a % 8) 0) (put-result v a) (Err Unaligned)
 
 abbrev pub put-view : View → ℕ → ℕ → View
 put-view v a x = cond (eqb (a % 8) 0) (after-put v a x) v
+
+-- the same seen beneath the prefix
+abbrev pub put-under : ℕ → View → ℕ → ℕ → View
+put-under prefix v a x = cond (eqb (a % 8) 0) (after-put v (exchange 8192 prefix a) x) v
 
 -- the named source is empty, and the other as it was
 abbrev pub Purged : SourceName → Type 0 → Type 0 → Type 0 → Type 0 → Type 0

@@ -5,7 +5,7 @@ ghost use mathlib.Core.Bool.{true, false, cond};
 ghost use mathlib.Core.Path.{_≡_};
 ghost use Rattle.arch.specs.declared.condition.Condition.the-variants.{BadPrefix};
 ghost use Rattle.lookup.specs.Sources.{Empty};
-ghost use Rattle.machine.specs.Calls.{zero-registers, with-prefix, put-answer, put-view, Purged};
+ghost use Rattle.machine.specs.Calls.{zero-registers, with-prefix, put-answer, put-view, put-under, Purged};
 ghost use Rattle.machine.specs.Registers.{registers};
 ghost use Rattle.std.specs.declared.result.Result.the-variants.{Ok, Err};
 ghost use Rattle.storage.specs.Prefixes.{lawful-prefix, prefixed};
@@ -26,6 +26,8 @@ impl Machine {
         ensures registers { λ r. ⌜ registers r ≡ zero-registers ⌝ }
         ensures arts { λ _. ⌜ Empty (A·Source .holds (now (arts .exit))) ⌝ }
         ensures pages { λ _. ⌜ Empty (P·Source .holds (now (pages .exit))) ⌝ }
+        ensures arts_cleared { λ _. ⌜ A·Source .clears (now (arts .entry)) (now (arts .exit)) ⌝ }
+        ensures pages_cleared { λ _. ⌜ P·Source .clears (now (pages .entry)) (now (pages .exit)) ⌝ }
     {
         arts.purge();
         pages.purge();
@@ -39,6 +41,7 @@ impl Machine {
         ensures registers { λ _. ⌜ registers (now (self .exit)) ≡ cond (lawful-prefix prefix) (with-prefix prefix (registers (now (self .entry)))) (registers (now (self .entry))) ⌝ }
         ensures storage { λ _. ⌜ now (storage .exit) .beneath ≡ now (storage .entry) .beneath ⌝ }
         ensures purged { λ _. ⌜ (lawful-prefix prefix ≡ true → Empty (A·Source .holds (now (arts .exit))) × Empty (P·Source .holds (now (pages .exit)))) ⌝ }
+        ensures cleared { λ _. ⌜ (lawful-prefix prefix ≡ true → A·Source .clears (now (arts .entry)) (now (arts .exit)) × P·Source .clears (now (pages .entry)) (now (pages .exit))) ⌝ }
         ensures refused { λ _. ⌜ (lawful-prefix prefix ≡ false → (now (storage .exit) ≡ now (storage .entry)) × (now (arts .exit) ≡ now (arts .entry)) × (now (pages .exit) ≡ now (pages .entry))) ⌝ }
     {
         storage.set_prefix(prefix)?;
@@ -53,6 +56,7 @@ impl Machine {
         ensures result { λ r. ⌜ r ≡ put-answer (prefixed (now (self .entry) .prefix) (S·Storage .view (now (storage .entry) .beneath))) address ⌝ }
         ensures registers { λ _. ⌜ now (self .exit) ≡ now (self .entry) ⌝ }
         ensures storage { λ _. ⌜ prefixed (now (self .entry) .prefix) (S·Storage .view (now (storage .exit) .beneath)) ≡ put-view (prefixed (now (self .entry) .prefix) (S·Storage .view (now (storage .entry) .beneath))) address value ⌝ }
+        ensures under { λ _. ⌜ S·Storage .view (now (storage .exit) .beneath) ≡ put-under (now (self .entry) .prefix) (S·Storage .view (now (storage .entry) .beneath)) address value ⌝ }
         ensures refused { λ _. ⌜ (eqb (address % 8) 0 ≡ false → now (storage .exit) ≡ now (storage .entry)) ⌝ }
     {
         if address % 8 != 0 {
@@ -66,6 +70,7 @@ impl Machine {
     pub fn purge<A: Source<AccessRegister>, P: Source<Paging>>(&mut self, arts: &mut A, pages: &mut P, source: SourceName)
         ensures registers { λ _. ⌜ now (self .exit) ≡ now (self .entry) ⌝ }
         ensures sources { λ _. ⌜ Purged source (Empty (A·Source .holds (now (arts .exit)))) (now (arts .exit) ≡ now (arts .entry)) (Empty (P·Source .holds (now (pages .exit)))) (now (pages .exit) ≡ now (pages .entry)) ⌝ }
+        ensures cleared { λ _. ⌜ Purged source (A·Source .clears (now (arts .entry)) (now (arts .exit))) (now (arts .exit) ≡ now (arts .entry)) (P·Source .clears (now (pages .entry)) (now (pages .exit))) (now (pages .exit) ≡ now (pages .entry)) ⌝ }
     {
         match source {
             SourceName::AccessRegister => arts.purge(),

@@ -75,11 +75,12 @@ pub impl<S: Storage> Storage for Prefixed<S> as PrefixedStorage {
         self.beneath.key(exchanged(2, self.prefix / 4096, block))
     }
 
-    // The prefix stays.
+    // The prefix stays, and beneath the doubleword at the exchanged address is put.
     fn put(&mut self, address: u64, value: u64) -> Result<(), Condition>
         ensures result { λ r. ⌜ r ≡ put-result (prefixed (now (self .entry) .prefix) (S·Storage .view (now (self .entry) .beneath))) address ⌝ }
         ensures after { λ _. ⌜ prefixed (now (self .exit) .prefix) (S·Storage .view (now (self .exit) .beneath)) ≡ after-put (prefixed (now (self .entry) .prefix) (S·Storage .view (now (self .entry) .beneath))) address value ⌝ }
         ensures prefix { λ _. ⌜ now (self .exit) .prefix ≡ now (self .entry) .prefix ⌝ }
+        ensures under { λ _. ⌜ S·Storage .view (now (self .exit) .beneath) ≡ after-put (S·Storage .view (now (self .entry) .beneath)) (exchange 8192 (now (self .entry) .prefix) address) value ⌝ }
     {
         self.beneath.put(exchanged(8192, self.prefix, address), value)
     }
