@@ -64,10 +64,10 @@ load-access n v r = cond (ltb 15 n || not (ltb v (2 ^ 32))) None (Some (record {
 abbrev pub load-mode : ℕ → ℕ → ℕ → Registers → Option Registers
 load-mode mode size key r = cond (ltb 4 mode || (ltb 2 size || ltb 15 key)) None (Some (record { mode = mode; size = size; key = key; prefix = r .prefix; control = r .control; access = r .access }))
 
--- a load sets what it says, or is refused and leaves the registers
-abbrev pub Loads : Option Registers → Registers → Registers → Result (Unit {0}) Condition → Type 0
-Loads None before after r = (r ≡ Err BadNumber) × (after ≡ before)
-Loads (Some new) before after r = (r ≡ Ok tt) × (after ≡ new)
+-- what a load answers
+abbrev pub load-result : Option Registers → Result (Unit {0}) Condition
+load-result None = Err BadNumber
+load-result (Some r) = Ok tt
 
 -- the registers with another prefix
 abbrev pub with-prefix : ℕ → Registers → Registers

@@ -1,6 +1,8 @@
 // The calls that set registers. They are handed no storage and no source, so they purge nothing.
-ghost use Rattle.machine.specs.Calls.{load-control, load-access, load-mode, Loads};
+ghost use mathlib.Core.Path.{_≡_};
+ghost use Rattle.machine.specs.Calls.{load-control, load-access, load-mode, load-result};
 ghost use Rattle.machine.specs.Registers.{registers};
+ghost use Rattle.std.specs.Options.{valueOr};
 use crate::registers::Control;
 use crate::registers::Machine;
 use arch::condition::Condition;
@@ -8,7 +10,8 @@ use arch::condition::Condition;
 impl Machine {
     // Sets one control register.
     pub fn load_control(&mut self, register: u64, value: u64) -> Result<(), Condition>
-        ensures { λ r. ⌜ Loads (load-control register value (registers (now (self .entry)))) (registers (now (self .entry))) (registers (now (self .exit))) r ⌝ }
+        ensures result { λ r. ⌜ r ≡ load-result (load-control register value (registers (now (self .entry)))) ⌝ }
+        ensures registers { λ _. ⌜ registers (now (self .exit)) ≡ valueOr (load-control register value (registers (now (self .entry)))) (registers (now (self .entry))) ⌝ }
     {
         let old = self.control;
         let control = match register {
@@ -27,7 +30,8 @@ impl Machine {
 
     // Sets one access register.
     pub fn load_access(&mut self, register: u64, value: u64) -> Result<(), Condition>
-        ensures { λ r. ⌜ Loads (load-access register value (registers (now (self .entry)))) (registers (now (self .entry))) (registers (now (self .exit))) r ⌝ }
+        ensures result { λ r. ⌜ r ≡ load-result (load-access register value (registers (now (self .entry)))) ⌝ }
+        ensures registers { λ _. ⌜ registers (now (self .exit)) ≡ valueOr (load-access register value (registers (now (self .entry)))) (registers (now (self .entry))) ⌝ }
     {
         if register > 15 || value >= 1 << 32 {
             return Err(Condition::BadNumber);
@@ -40,7 +44,8 @@ impl Machine {
 
     // Sets mode, size and key at once.
     pub fn load_mode(&mut self, mode: u64, size: u64, key: u64) -> Result<(), Condition>
-        ensures { λ r. ⌜ Loads (load-mode mode size key (registers (now (self .entry)))) (registers (now (self .entry))) (registers (now (self .exit))) r ⌝ }
+        ensures result { λ r. ⌜ r ≡ load-result (load-mode mode size key (registers (now (self .entry)))) ⌝ }
+        ensures registers { λ _. ⌜ registers (now (self .exit)) ≡ valueOr (load-mode mode size key (registers (now (self .entry)))) (registers (now (self .entry))) ⌝ }
     {
         if mode > 4 || size > 2 || key > 15 {
             return Err(Condition::BadNumber);
