@@ -5,3 +5,4 @@ pub mod Orders
 pub mod Pages
 pub mod Sources
 pub mod Spelling
+pub mod Worked

@@ -7,3 +7,4 @@ pub mod page;
 pub mod source;
 pub mod step;
 pub mod words;
+pub mod worked;
