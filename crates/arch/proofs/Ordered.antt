@@ -22,6 +22,7 @@ ordered-then {A} {B} s k rows more a b p q = ap (λ o. onward (s .list) o k .res
     test : (r : Row) (t : Bool) (o n : Option Condition) → onward (s .list) (verdict o a) k .result ≡ verdict n b → onward (s .list) (verdict (cond t (Some (r .condition)) o) a) k .result ≡ verdict (cond t (Some (r .condition)) n) b
     test r true o n h = refl
     test r false o n h = h
+
     by : (rs : List Row) → onward (s .list) (verdict (first-of rs) a) k .result ≡ verdict (first-of (rs ++ more)) b
     by [] = q
     by (r ∷ rs) = test r (r .applies) (first-of rs) (first-of (rs ++ more)) (by rs)

@@ -15,7 +15,6 @@ use Rattle.arch.specs.declared.condition.Condition.the-variants.{Addressing}
 
 infixl 20 _>>=_
 infixl 20 _>>_
-
 -- a lookup answers, meets a condition, or reads the doubleword at an address and goes on by its value
 pub data Walk (A : Type 0) : Type 0 where
   answers : A → Walk A

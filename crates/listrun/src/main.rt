@@ -26,7 +26,9 @@ const BYTES: usize = 65537;
 
 // Places for all that a text can say: a call's line has four bytes or more.
 const WORDS: usize = 1024;
+
 const KEYS: usize = 256;
+
 const CALLS: usize = 16384;
 
 // Reads the input, no further than one byte past the longest text.
@@ -47,7 +49,12 @@ fn input(rt: &LibcRuntime, text: &mut [u8]) -> io::Result<usize>
 
 // The line of a refusal.
 fn refused(rt: &LibcRuntime, line: usize, condition: Condition, count: usize) -> io::Result<()> {
-    println!(rt, "{line}\tE\t{}\t{}\t{count}", condition.code(), condition.name())
+    println!(
+        rt,
+        "{line}\tE\t{}\t{}\t{count}",
+        condition.code(),
+        condition.name()
+    )
 }
 
 // The line of a translation.
@@ -72,7 +79,13 @@ fn listed(rt: &LibcRuntime, line: usize, outcome: Outcome) -> io::Result<()> {
 }
 
 // Runs the calls, the first of which stands on `line`.
-fn run(rt: &LibcRuntime, line: usize, words: &mut [Word], keys: &[BlockKey], calls: &[Call]) -> io::Result<()> {
+fn run(
+    rt: &LibcRuntime,
+    line: usize,
+    words: &mut [Word],
+    keys: &[BlockKey],
+    calls: &[Call],
+) -> io::Result<()> {
     let mut storage = Prefixed::new(Sparse { words, keys });
     let mut arts = TableWalk;
     let mut pages = TableWalk;
@@ -87,13 +100,20 @@ fn run(rt: &LibcRuntime, line: usize, words: &mut [Word], keys: &[BlockKey], cal
 fn list(rt: &LibcRuntime) -> Result<(), AnyError> {
     let heap = rt.alloc();
     let mut text = vec![in heap; 0u8; BYTES]?;
-    let mut words = vec![in heap; Word { address: 0, value: 0 }; WORDS]?;
+    let mut words = vec![in heap; Word {
+        address: 0,
+        value: 0
+    }; WORDS]?;
     let mut keys = vec![in heap; BlockKey { block: 0, key: 0 }; KEYS]?;
     let mut calls = vec![in heap; Call::SetPrefix { prefix: 0 }; CALLS]?;
     let length = input(rt, &mut text)?;
     match runtext::read(&text[0..length], &mut words, &mut keys, &mut calls) {
         Ok(n) => {
-            let Counts { words: w, keys: k, calls: c } = n;
+            let Counts {
+                words: w,
+                keys: k,
+                calls: c,
+            } = n;
             let line = w.saturating_add(k).saturating_add(2);
             run(rt, line, &mut words[0..w], &keys[0..k], &calls[0..c])?;
         }

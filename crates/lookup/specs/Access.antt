@@ -52,50 +52,50 @@ asks-authority k first = bit 7 first && not (eqb (bits 16 31 first) (k .eax))
 -- the address of the access-list entry
 abbrev pub locate : AccessKey → Walk ℕ
 locate k = do
-    check AletSpecification (not (eqb (token-bits 0 6 k) 0))
-    designation ← read (k .designation)
-    check AlenTranslation (ltb (list-length designation) (entry-number k / 2 ^ 3))
-    answers (list-origin designation + 16 * entry-number k)
+  check AletSpecification (not (eqb (token-bits 0 6 k) 0))
+  designation ← read (k .designation)
+  check AlenTranslation (ltb (list-length designation) (entry-number k / 2 ^ 3))
+  answers (list-origin designation + 16 * entry-number k)
 
 -- the first doubleword of the access-list entry, valid and of the token's sequence
 abbrev pub entry-first : AccessKey → ℕ → Walk ℕ
 entry-first k at = do
-    first ← read at
-    check AlenTranslation (bit 0 first)
-    check AleSequence (not (eqb (token-bits 8 15 k) (bits 8 15 first)))
-    answers first
+  first ← read at
+  check AlenTranslation (bit 0 first)
+  check AleSequence (not (eqb (token-bits 8 15 k) (bits 8 15 first)))
+  answers first
 
 -- both doublewords of it
 abbrev pub entry : AccessKey → ℕ → Walk AccessEntry
 entry k at = do
-    first ← entry-first k at
-    second ← read (at + 8)
-    answers (record { first = first; second = second })
+  first ← entry-first k at
+  second ← read (at + 8)
+  answers (record { first = first; second = second })
 
 -- the first doubleword of the ASTE, valid
 abbrev pub aste-first : ℕ → Walk ℕ
 aste-first second = do
-    first ← read (aste-origin second)
-    check AsteValidity (bit 0 first)
-    answers first
+  first ← read (aste-origin second)
+  check AsteValidity (bit 0 first)
+  answers first
 
 -- its third doubleword has the entry's sequence
 abbrev pub aste-sequence : ℕ → Walk (Unit {0})
 aste-sequence second = do
-    third ← read (aste-origin second + 16)
-    check AsteSequence (not (eqb (bits 32 63 second) (bits 32 63 third)))
+  third ← read (aste-origin second + 16)
+  check AsteSequence (not (eqb (bits 32 63 second) (bits 32 63 third)))
 
 abbrev pub aste : ℕ → Walk ℕ
 aste second = do
-    first ← aste-first second
-    aste-sequence second
-    answers first
+  first ← aste-first second
+  aste-sequence second
+  answers first
 
 abbrev pub secondary : ℕ → ℕ → Walk (Unit {0})
 secondary eax aste = do
-    check ExtendedAuthority (ltb (authority-length aste) (eax / 2 ^ 4))
-    authority ← read (authority-byte eax aste / 8 * 8)
-    check ExtendedAuthority (not (bit (authority-bit eax aste) authority))
+  check ExtendedAuthority (ltb (authority-length aste) (eax / 2 ^ 4))
+  authority ← read (authority-byte eax aste / 8 * 8)
+  check ExtendedAuthority (not (bit (authority-bit eax aste) authority))
 
 abbrev pub authorized : AccessKey → ℕ → ℕ → Walk (Unit {0})
 authorized k first aste = cond (asks-authority k first) (secondary (k .eax) aste) (answers tt)
@@ -103,12 +103,12 @@ authorized k first aste = cond (asks-authority k first) (secondary (k .eax) aste
 -- the address-space-control element, and whether the entry allows fetches only
 abbrev pub access-walk : AccessKey → Walk AccessAnswer
 access-walk k = do
-    at ← locate k
-    found ← entry k at
-    first ← aste (found .second)
-    authorized k (found .first) first
-    asce ← read (aste-origin (found .second) + 8)
-    answers (record { asce = asce; «fetch_only» = bit 6 (found .first) })
+  at ← locate k
+  found ← entry k at
+  first ← aste (found .second)
+  authorized k (found .first) first
+  asce ← read (aste-origin (found .second) + 8)
+  answers (record { asce = asce; «fetch_only» = bit 6 (found .first) })
 
 -- a token has 32 bits, an index 16
 abbrev pub access-fits : AccessKey → Type 0

@@ -46,33 +46,33 @@ outside t i = ltb (t .length) (i / 2 ^ 9) || ltb (i / 2 ^ 9) (t .offset)
 -- a valid entry of the type of its table
 abbrev pub valid-entry : ℕ → ℕ → Walk ℕ
 valid-entry level at = do
-    e ← read at
-    check (level-condition level) (bit 58 e)
-    check TranslationSpecification (not (eqb (bits 60 61 e) level))
-    answers e
+  e ← read at
+  check (level-condition level) (bit 58 e)
+  check TranslationSpecification (not (eqb (bits 60 61 e) level))
+  answers e
 
 abbrev pub table-entry : ℕ → Table → ℕ → Walk ℕ
 table-entry level t page = do
-    check (level-condition level) (outside t (index level page))
-    valid-entry level (t .origin + 8 * index level page)
+  check (level-condition level) (outside t (index level page))
+  valid-entry level (t .origin + 8 * index level page)
 
 -- the page entry under a segment entry: the frame, and the two protect bits joined
 abbrev pub page-entry : ℕ → ℕ → Walk PageAnswer
 page-entry segment page = do
-    e ← read (bits 0 52 segment * 2 ^ 11 + 8 * (page % 2 ^ 8))
-    check PageTranslation (bit 53 e)
-    check TranslationSpecification (bit 52 e || bit 55 e)
-    answers (record { frame = bits 0 51 e; protect = bit 54 segment || bit 54 e })
+  e ← read (bits 0 52 segment * 2 ^ 11 + 8 * (page % 2 ^ 8))
+  check PageTranslation (bit 53 e)
+  check TranslationSpecification (bit 52 e || bit 55 e)
+  answers (record { frame = bits 0 51 e; protect = bit 54 segment || bit 54 e })
 
 -- from a table of some level down to the page
 abbrev pub descend : ℕ → Table → Bool → ℕ → Walk PageAnswer
 descend zero t private page = do
-    e ← table-entry 0 t page
-    check TranslationSpecification (bit 59 e && private)
-    page-entry e page
+  e ← table-entry 0 t page
+  check TranslationSpecification (bit 59 e && private)
+  page-entry e page
 descend (suc level) t private page = do
-    e ← table-entry (suc level) t page
-    descend level (table-below e) private page
+  e ← table-entry (suc level) t page
+  descend level (table-below e) private page
 
 -- the table type of an element is the level that it begins at
 abbrev pub first-level : ℕ → ℕ
@@ -80,8 +80,8 @@ first-level asce = bits 60 61 asce
 
 abbrev pub through-tables : ℕ → ℕ → Walk PageAnswer
 through-tables asce page = do
-    check AsceType (not (eqb (left-of-index (first-level asce) page) 0))
-    descend (first-level asce) (table-of asce) (bit 55 asce) page
+  check AsceType (not (eqb (left-of-index (first-level asce) page) 0))
+  descend (first-level asce) (table-of asce) (bit 55 asce) page
 
 -- in a real space the frame is the page, unprotected
 abbrev pub page-walk : PageKey → Walk PageAnswer

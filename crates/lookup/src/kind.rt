@@ -13,6 +13,7 @@ use storage::storage::Storage;
 
 pub trait Kind {
     type Key: Copy;
+
     type Answer: Copy;
 
     // The lookup as a tree of reads.
@@ -47,7 +48,12 @@ pub trait Kind {
     // Walks the tables, noting each address asked for in the places from `used` on. It comes to what it
     // finds exactly where no condition of its table applies, else to the first that does; and it sees no
     // more of the storage than it lists.
-    fn walk<S: Storage>(storage: &S, key: Self::Key, list: &mut [u64], used: &mut usize) -> Result<Self::Answer, Condition>
+    fn walk<S: Storage>(
+        storage: &S,
+        key: Self::Key,
+        list: &mut [u64],
+        used: &mut usize,
+    ) -> Result<Self::Answer, Condition>
         requires { ⌜ now used + most ≤ length (now list) ⌝ }
         ensures walked { λ r. ⌜ Walked most limit (S·Storage .view (now (storage .entry)) .word) (tree key) (now (list .entry)) (now (used .entry)) (now (list .exit)) (now (used .exit)) r ⌝ }
         ensures order { λ r. ⌜ Ordered (rows (S·Storage .view (now (storage .entry)) .word) key) (found (S·Storage .view (now (storage .entry)) .word) key) r ⌝ }

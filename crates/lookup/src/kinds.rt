@@ -19,6 +19,7 @@ pub enum AccessRegister {}
 
 pub impl Kind for AccessRegister as AccessRegisterKind {
     type Key = AccessKey;
+
     type Answer = AccessAnswer;
 
     ghost tree = { access-walk };
@@ -39,20 +40,34 @@ pub impl Kind for AccessRegister as AccessRegisterKind {
 
     ghost meant = { access-meant };
 
-    fn walk<S: Storage>(storage: &S, key: AccessKey, list: &mut [u64], used: &mut usize) -> Result<AccessAnswer, Condition> {
+    fn walk<S: Storage>(
+        storage: &S,
+        key: AccessKey,
+        list: &mut [u64],
+        used: &mut usize,
+    ) -> Result<AccessAnswer, Condition> {
         access::walk(storage, key, list, used)
     }
 
     fn spell(key: AccessKey) -> Words {
-        Words { first: u64::from(key.eax) * (1 << 32) + u64::from(key.alet), second: key.designation }
+        Words {
+            first: u64::from(key.eax) * (1 << 32) + u64::from(key.alet),
+            second: key.designation,
+        }
     }
 
     fn write(answer: AccessAnswer) -> Words {
-        Words { first: answer.asce, second: u64::from(answer.fetch_only) }
+        Words {
+            first: answer.asce,
+            second: u64::from(answer.fetch_only),
+        }
     }
 
     fn mean(words: Words) -> AccessAnswer {
-        AccessAnswer { asce: words.first, fetch_only: words.second == 1 }
+        AccessAnswer {
+            asce: words.first,
+            fetch_only: words.second == 1,
+        }
     }
 }
 
@@ -61,6 +76,7 @@ pub enum Paging {}
 
 pub impl Kind for Paging as PagingKind {
     type Key = PageKey;
+
     type Answer = PageAnswer;
 
     ghost tree = { page-walk };
@@ -81,19 +97,33 @@ pub impl Kind for Paging as PagingKind {
 
     ghost meant = { page-meant };
 
-    fn walk<S: Storage>(storage: &S, key: PageKey, list: &mut [u64], used: &mut usize) -> Result<PageAnswer, Condition> {
+    fn walk<S: Storage>(
+        storage: &S,
+        key: PageKey,
+        list: &mut [u64],
+        used: &mut usize,
+    ) -> Result<PageAnswer, Condition> {
         page::walk(storage, key, list, used)
     }
 
     fn spell(key: PageKey) -> Words {
-        Words { first: key.asce, second: key.page }
+        Words {
+            first: key.asce,
+            second: key.page,
+        }
     }
 
     fn write(answer: PageAnswer) -> Words {
-        Words { first: answer.frame, second: u64::from(answer.protect) }
+        Words {
+            first: answer.frame,
+            second: u64::from(answer.protect),
+        }
     }
 
     fn mean(words: Words) -> PageAnswer {
-        PageAnswer { frame: words.first, protect: words.second == 1 }
+        PageAnswer {
+            frame: words.first,
+            protect: words.second == 1,
+        }
     }
 }

@@ -28,7 +28,13 @@ pub trait Source<K: Kind> {
 
     // Gives the shown answer and lists nothing; with none shown it gives the fresh result and lists each
     // address asked for. What it holds afterwards it held before, or is its key's fresh answer.
-    fn ask<S: Storage>(&mut self, storage: &S, key: K::Key, list: &mut [u64], used: &mut usize) -> Result<K::Answer, Condition>
+    fn ask<S: Storage>(
+        &mut self,
+        storage: &S,
+        key: K::Key,
+        list: &mut [u64],
+        used: &mut usize,
+    ) -> Result<K::Answer, Condition>
         requires { ⌜ now used + K·Kind .most ≤ length (now list) ⌝ }
         ensures gives { λ r. ⌜ Stepped (K·Kind .most) (asked (shows (now (self .entry)) key) (over (K·Kind .limit) (S·Storage .view (now (storage .entry)) .word) (K·Kind .tree key))) (now (list .entry)) (now (used .entry)) (now (list .exit)) (now (used .exit)) r ⌝ }
         ensures keeps { λ _. ⌜ Kept (K·Kind .fits) (λ k. over (K·Kind .limit) (S·Storage .view (now (storage .entry)) .word) (K·Kind .tree k)) (holds (now (self .entry))) (holds (now (self .exit))) ⌝ }
@@ -55,7 +61,13 @@ pub impl<K: Kind> Source<K> for TableWalk as TableWalkSource {
 
     ghost shown = { λ _ _ _ e. none-is-not-some e };
 
-    fn ask<S: Storage>(&mut self, storage: &S, key: K::Key, list: &mut [u64], used: &mut usize) -> Result<K::Answer, Condition> {
+    fn ask<S: Storage>(
+        &mut self,
+        storage: &S,
+        key: K::Key,
+        list: &mut [u64],
+        used: &mut usize,
+    ) -> Result<K::Answer, Condition> {
         K::walk(storage, key, list, used)
     }
 

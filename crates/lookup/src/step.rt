@@ -9,7 +9,13 @@ use storage::storage::Storage;
 
 // Reads one doubleword of a table. An address that reaches the limit is refused and not listed; any other
 // is listed, also where its doubleword is absent.
-pub(crate) fn read<S: Storage>(storage: &S, at: u128, limit: u128, list: &mut [u64], used: &mut usize) -> Result<u64, Condition>
+pub(crate) fn read<S: Storage>(
+    storage: &S,
+    at: u128,
+    limit: u128,
+    list: &mut [u64],
+    used: &mut usize,
+) -> Result<u64, Condition>
     requires limit { ⌜ limit ≤ 2 ^ 64 ⌝ }
     requires room { ⌜ now used < length (now list) ⌝ }
     ensures { λ r. ⌜ Walked 1 limit (S·Storage .view (now (storage .entry)) .word) (reading at) (now (list .entry)) (now (used .entry)) (now (list .exit)) (now (used .exit)) r ⌝ }

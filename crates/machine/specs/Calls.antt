@@ -33,7 +33,10 @@ refuses-translation register places = ltb 15 register || ltb places 12
 -- a new machine has zero registers
 abbrev pub zero-registers : Registers
 zero-registers = record {
-  mode = 0; size = 0; key = 0; prefix = 0;
+  mode = 0;
+  size = 0;
+  key = 0;
+  prefix = 0;
   control = record { c0 = 0; c1 = 0; c2 = 0; c5 = 0; c7 = 0; c8 = 0; c13 = 0 };
   access = replicate 16 0;
 }

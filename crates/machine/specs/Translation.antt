@@ -24,7 +24,6 @@ use Rattle.machine.specs.Registers.{Registers}
 
 infixl 20 _>>=_
 infixl 20 _>>_
-
 abbrev pub _>>=_ : {A B : Type 0} → Seen A → (A → Seen B) → Seen B
 _>>=_ s k = then s k
 
@@ -108,9 +107,9 @@ page-key asce a = record { asce = asce; page = a / 2 ^ 12 }
 -- from what a page lookup found to the real address
 abbrev pub framed : Access → AccessAnswer → ℕ → PageAnswer → Seen ℕ
 framed access space a page = do
-    unless AccessList (is-store access && space .«fetch_only»)
-    unless Page (is-store access && page .protect)
-    given (real-address (page .frame) a)
+  unless AccessList (is-store access && space .«fetch_only»)
+  unless Page (is-store access && page .protect)
+  given (real-address (page .frame) a)
 
 -- through the pages of a space
 abbrev pub by-page : (PageKey → Seen PageAnswer) → Access → AccessAnswer → ℕ → Seen ℕ
@@ -139,20 +138,20 @@ key-protected key access (Some k) = not (eqb key 0) && (not (eqb key (k / 2)) &&
 -- the doubleword that holds the real address
 abbrev pub reached : Registers → View → Access → ℕ → Seen ℕ
 reached r view access real = do
-    unless Addressing (not (isSome (view .word (real / 8 * 8))))
-    unless Key (key-protected (r .key) access (view .key (block-of real)))
-    given real
+  unless Addressing (not (isSome (view .word (real / 8 * 8))))
+  unless Key (key-protected (r .key) access (view .key (block-of real)))
+  given real
 
 abbrev pub reach : Registers → (AccessKey → Seen AccessAnswer) → (PageKey → Seen PageAnswer) → View → Access → ℕ → ℕ → Seen ℕ
 reach r access-asks page-asks view access register a = do
-    space ← space-by-mode (r .mode) r access-asks register
-    unless LowAddress (low-protected r access a)
-    real ← real-of page-asks access space a
-    reached r view access real
+  space ← space-by-mode (r .mode) r access-asks register
+  unless LowAddress (low-protected r access a)
+  real ← real-of page-asks access space a
+  reached r view access real
 
 -- the whole of a translation; its first two conditions are refusals, at which nothing is asked
 abbrev pub translation : Registers → (AccessKey → Seen AccessAnswer) → (PageKey → Seen PageAnswer) → View → Access → ℕ → ℕ → ℕ → Seen ℕ
 translation r access-asks page-asks view access register address places = do
-    unless BadNumber (ltb 15 register)
-    unless ShortList (ltb places 12)
-    reach r access-asks page-asks view access register (cut (r .size) address)
+  unless BadNumber (ltb 15 register)
+  unless ShortList (ltb places 12)
+  reach r access-asks page-asks view access register (cut (r .size) address)

@@ -6,6 +6,7 @@ mod reach;
 mod registers;
 mod space;
 mod state;
+
 pub use machine::Counted;
 pub use perform::Outcome;
 pub use registers::Control;

@@ -24,7 +24,14 @@ impl Machine {
             13 => Control { c13: value, ..old },
             _ => return Err(Condition::BadNumber),
         };
-        *self = Machine { mode: self.mode, size: self.size, key: self.key, prefix: self.prefix, control, access: self.access };
+        *self = Machine {
+            mode: self.mode,
+            size: self.size,
+            key: self.key,
+            prefix: self.prefix,
+            control,
+            access: self.access,
+        };
         Ok(())
     }
 
@@ -38,7 +45,14 @@ impl Machine {
         }
         let mut access = self.access;
         access[register as usize] = value as u32;
-        *self = Machine { mode: self.mode, size: self.size, key: self.key, prefix: self.prefix, control: self.control, access };
+        *self = Machine {
+            mode: self.mode,
+            size: self.size,
+            key: self.key,
+            prefix: self.prefix,
+            control: self.control,
+            access,
+        };
         Ok(())
     }
 
@@ -50,7 +64,14 @@ impl Machine {
         if mode > 4 || size > 2 || key > 15 {
             return Err(Condition::BadNumber);
         }
-        *self = Machine { mode: mode as u8, size: size as u8, key: key as u8, prefix: self.prefix, control: self.control, access: self.access };
+        *self = Machine {
+            mode: mode as u8,
+            size: size as u8,
+            key: key as u8,
+            prefix: self.prefix,
+            control: self.control,
+            access: self.access,
+        };
         Ok(())
     }
 }

@@ -34,7 +34,16 @@ impl Machine {
     // Translates an address, for a fetch or a store, by an access register. The addresses asked for are
     // written to the first places of the list. With sources that show nothing it comes to an address exactly
     // where no condition of its table applies, and else to the first that does.
-    pub fn translate<S: Storage, A: Source<AccessRegister>, P: Source<Paging>>(&mut self, storage: &mut Prefixed<S>, arts: &mut A, pages: &mut P, access: Access, register: u64, address: u64, list: &mut [u64]) -> Counted<u64>
+    pub fn translate<S: Storage, A: Source<AccessRegister>, P: Source<Paging>>(
+        &mut self,
+        storage: &mut Prefixed<S>,
+        arts: &mut A,
+        pages: &mut P,
+        access: Access,
+        register: u64,
+        address: u64,
+        list: &mut [u64],
+    ) -> Counted<u64>
         ensures gives { λ r. ⌜ Counts (translation (registers (now (self .entry))) (access-asks (A·Source .shows (now (arts .entry))) (prefixed (now (self .entry) .prefix) (S·Storage .view (now (storage .entry) .beneath)) .word)) (page-asks (P·Source .shows (now (pages .entry))) (prefixed (now (self .entry) .prefix) (S·Storage .view (now (storage .entry) .beneath)) .word)) (prefixed (now (self .entry) .prefix) (S·Storage .view (now (storage .entry) .beneath))) access register address (length (now (list .entry)))) (now (list .entry)) (now (list .exit)) (r .result) (r .count) ⌝ }
         ensures registers { λ _. ⌜ now (self .exit) ≡ now (self .entry) ⌝ }
         ensures storage { λ _. ⌜ now (storage .exit) .beneath ≡ now (storage .entry) .beneath ⌝ }
@@ -46,14 +55,32 @@ impl Machine {
         ensures order { λ r. ⌜ (Silent (A·Source .shows (now (arts .entry))) → Silent (P·Source .shows (now (pages .entry))) → Ordered (translation-rows (registers (now (self .entry))) (prefixed (now (self .entry) .prefix) (S·Storage .view (now (storage .entry) .beneath))) access register address (length (now (list .entry)))) (real-found (registers (now (self .entry))) (prefixed (now (self .entry) .prefix) (S·Storage .view (now (storage .entry) .beneath))) access register address (length (now (list .entry)))) (r .result)) ⌝ }
     {
         if register > 15 {
-            return Counted { result: Err(Condition::BadNumber), count: 0 };
+            return Counted {
+                result: Err(Condition::BadNumber),
+                count: 0,
+            };
         }
         if list.len() < 12 {
-            return Counted { result: Err(Condition::ShortList), count: 0 };
+            return Counted {
+                result: Err(Condition::ShortList),
+                count: 0,
+            };
         }
         let _ = storage.set_prefix(self.prefix);
         let mut used = 0;
-        let result = self.reach(storage, arts, pages, access, register as usize, self.cut(address), list, &mut used);
-        Counted { result, count: used }
+        let result = self.reach(
+            storage,
+            arts,
+            pages,
+            access,
+            register as usize,
+            self.cut(address),
+            list,
+            &mut used,
+        );
+        Counted {
+            result,
+            count: used,
+        }
     }
 }

@@ -29,7 +29,13 @@ pub enum Outcome {
 
 impl Machine {
     // Makes one call of a run, with places enough for its list.
-    pub fn perform<S: Storage, A: Source<AccessRegister>, P: Source<Paging>>(&mut self, storage: &mut Prefixed<S>, arts: &mut A, pages: &mut P, call: Call) -> Outcome
+    pub fn perform<S: Storage, A: Source<AccessRegister>, P: Source<Paging>>(
+        &mut self,
+        storage: &mut Prefixed<S>,
+        arts: &mut A,
+        pages: &mut P,
+        call: Call,
+    ) -> Outcome
         ensures outcome { λ r. ⌜ r ≡ outcome-of (registers (now (self .entry))) (access-asks (A·Source .shows (now (arts .entry))) (real-view (registers (now (self .entry))) (S·Storage .view (now (storage .entry) .beneath)) .word)) (page-asks (P·Source .shows (now (pages .entry))) (real-view (registers (now (self .entry))) (S·Storage .view (now (storage .entry) .beneath)) .word)) (S·Storage .view (now (storage .entry) .beneath)) call ⌝ }
         ensures registers { λ _. ⌜ registers (now (self .exit)) ≡ registers-after (registers (now (self .entry))) call ⌝ }
         ensures storage { λ _. ⌜ S·Storage .view (now (storage .exit) .beneath) ≡ view-after (registers (now (self .entry))) (S·Storage .view (now (storage .entry) .beneath)) call ⌝ }
@@ -37,13 +43,36 @@ impl Machine {
         ensures pages { λ _. ⌜ When (purges-pages call) (Empty (P·Source .holds (now (pages .exit)))) (Kept page-fits (page-fresh (real-view (registers (now (self .entry))) (S·Storage .view (now (storage .entry) .beneath)) .word)) (P·Source .holds (now (pages .entry))) (P·Source .holds (now (pages .exit)))) ⌝ }
     {
         match call {
-            Call::LoadControl { register, value } => Outcome::Loaded(self.load_control(register, value)),
-            Call::LoadAccess { register, value } => Outcome::Loaded(self.load_access(register, value)),
+            Call::LoadControl { register, value } => Outcome::Loaded(self.load_control(
+                register,
+                value,
+            )),
+            Call::LoadAccess { register, value } => Outcome::Loaded(self.load_access(
+                register,
+                value,
+            )),
             Call::LoadMode { mode, size, key } => Outcome::Loaded(self.load_mode(mode, size, key)),
-            Call::SetPrefix { prefix } => Outcome::Loaded(self.set_prefix(storage, arts, pages, prefix)),
-            Call::Translate { access, register, address } => {
+            Call::SetPrefix { prefix } => Outcome::Loaded(self.set_prefix(
+                storage,
+                arts,
+                pages,
+                prefix,
+            )),
+            Call::Translate {
+                access,
+                register,
+                address,
+            } => {
                 let mut list = [0; 12];
-                Outcome::Translated(self.translate(storage, arts, pages, access, register, address, &mut list))
+                Outcome::Translated(self.translate(
+                    storage,
+                    arts,
+                    pages,
+                    access,
+                    register,
+                    address,
+                    &mut list,
+                ))
             }
             Call::Put { address, value } => Outcome::Put(self.put(storage, address, value)),
             Call::Purge { source } => {

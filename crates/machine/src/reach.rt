@@ -44,7 +44,12 @@ fn key_protected(key: u8, access: Access, block: Option<u8>) -> bool
 }
 
 // From what a page lookup found to the real address.
-fn framed(access: Access, space: AccessAnswer, address: u64, page: PageAnswer) -> Result<u64, Condition>
+fn framed(
+    access: Access,
+    space: AccessAnswer,
+    address: u64,
+    page: PageAnswer,
+) -> Result<u64, Condition>
     ensures result { λ r. ⌜ r ≡ framing access space address page .result ⌝ }
     ensures none { λ _. ⌜ framing access space address page .list ≡ [] ⌝ }
 {
@@ -54,18 +59,42 @@ fn framed(access: Access, space: AccessAnswer, address: u64, page: PageAnswer) -
 }
 
 // Through the pages of a space to a real address.
-fn by_pages<S: Storage, P: Source<Paging>>(storage: &S, pages: &mut P, access: Access, space: AccessAnswer, address: u64, list: &mut [u64], used: &mut usize) -> Result<u64, Condition>
+fn by_pages<S: Storage, P: Source<Paging>>(
+    storage: &S,
+    pages: &mut P,
+    access: Access,
+    space: AccessAnswer,
+    address: u64,
+    list: &mut [u64],
+    used: &mut usize,
+) -> Result<u64, Condition>
     requires { ⌜ now used + 5 ≤ length (now list) ⌝ }
     ensures gives { λ r. ⌜ Stepped 5 (by-page (page-asks (P·Source .shows (now (pages .entry))) (S·Storage .view (now (storage .entry)) .word)) access space address) (now (list .entry)) (now (used .entry)) (now (list .exit)) (now (used .exit)) r ⌝ }
     ensures keeps { λ _. ⌜ Kept page-fits (page-fresh (S·Storage .view (now (storage .entry)) .word)) (P·Source .holds (now (pages .entry))) (P·Source .holds (now (pages .exit))) ⌝ }
     ensures moves { λ _. ⌜ Moved (Some (page-key (space .asce) address)) (P·Source .moves (now (pages .entry)) (page-fresh (S·Storage .view (now (storage .entry)) .word))) (now (pages .entry)) (now (pages .exit)) ⌝ }
 {
-    let page = pages.ask(storage, PageKey { asce: space.asce, page: address / 4096 }, list, used)?;
+    let page = pages.ask(
+        storage,
+        PageKey {
+            asce: space.asce,
+            page: address / 4096,
+        },
+        list,
+        used,
+    )?;
     framed(access, space, address, page)
 }
 
 // With DAT off the address is real.
-fn real_of<S: Storage, P: Source<Paging>>(storage: &S, pages: &mut P, access: Access, space: Option<AccessAnswer>, address: u64, list: &mut [u64], used: &mut usize) -> Result<u64, Condition>
+fn real_of<S: Storage, P: Source<Paging>>(
+    storage: &S,
+    pages: &mut P,
+    access: Access,
+    space: Option<AccessAnswer>,
+    address: u64,
+    list: &mut [u64],
+    used: &mut usize,
+) -> Result<u64, Condition>
     requires { ⌜ now used + 5 ≤ length (now list) ⌝ }
     ensures gives { λ r. ⌜ Stepped 5 (real-of (page-asks (P·Source .shows (now (pages .entry))) (S·Storage .view (now (storage .entry)) .word)) access space address) (now (list .entry)) (now (used .entry)) (now (list .exit)) (now (used .exit)) r ⌝ }
     ensures keeps { λ _. ⌜ Kept page-fits (page-fresh (S·Storage .view (now (storage .entry)) .word)) (P·Source .holds (now (pages .entry))) (P·Source .holds (now (pages .exit))) ⌝ }
@@ -103,12 +132,25 @@ impl Machine {
         ensures none { λ r. ⌜ reaching (registers (now (self .entry))) (S·Storage .view (now (storage .entry))) access real .list ≡ [] ⌝ }
     {
         check(Condition::Addressing, storage.fetch(real / 8 * 8).is_none())?;
-        check(Condition::Key, key_protected(self.key, access, storage.key(real / 4096)))?;
+        check(
+            Condition::Key,
+            key_protected(self.key, access, storage.key(real / 4096)),
+        )?;
         Ok(real)
     }
 
     // The whole of a translation, over an address that is cut to its size.
-    pub(crate) fn reach<S: Storage, A: Source<AccessRegister>, P: Source<Paging>>(&self, storage: &S, arts: &mut A, pages: &mut P, access: Access, register: usize, address: u64, list: &mut [u64], used: &mut usize) -> Result<u64, Condition>
+    pub(crate) fn reach<S: Storage, A: Source<AccessRegister>, P: Source<Paging>>(
+        &self,
+        storage: &S,
+        arts: &mut A,
+        pages: &mut P,
+        access: Access,
+        register: usize,
+        address: u64,
+        list: &mut [u64],
+        used: &mut usize,
+    ) -> Result<u64, Condition>
         requires register { ⌜ register < 16 ⌝ }
         requires room { ⌜ now used + 12 ≤ length (now list) ⌝ }
         ensures gives { λ r. ⌜ Stepped 12 (reach-by (registers (now (self .entry))) (access-asks (A·Source .shows (now (arts .entry))) (S·Storage .view (now (storage .entry)) .word)) (page-asks (P·Source .shows (now (pages .entry))) (S·Storage .view (now (storage .entry)) .word)) (S·Storage .view (now (storage .entry))) access register address) (now (list .entry)) (now (used .entry)) (now (list .exit)) (now (used .exit)) r ⌝ }

@@ -24,11 +24,20 @@ use storage::storage::Storage;
 fn held_in(asce: u64) -> Option<AccessAnswer>
     ensures { λ r. ⌜ r ≡ Some (record { asce = asce; «fetch_only» = false }) ⌝ }
 {
-    Some(AccessAnswer { asce, fetch_only: false })
+    Some(AccessAnswer {
+        asce,
+        fetch_only: false,
+    })
 }
 
 // A space by lookup.
-fn looked_up<S: Storage, A: Source<AccessRegister>>(storage: &S, arts: &mut A, key: AccessKey, list: &mut [u64], used: &mut usize) -> Result<Option<AccessAnswer>, Condition>
+fn looked_up<S: Storage, A: Source<AccessRegister>>(
+    storage: &S,
+    arts: &mut A,
+    key: AccessKey,
+    list: &mut [u64],
+    used: &mut usize,
+) -> Result<Option<AccessAnswer>, Condition>
     requires { ⌜ now used + 7 ≤ length (now list) ⌝ }
     ensures gives { λ r. ⌜ Stepped 7 (looked-up (access-asks (A·Source .shows (now (arts .entry))) (S·Storage .view (now (storage .entry)) .word)) key) (now (list .entry)) (now (used .entry)) (now (list .exit)) (now (used .exit)) r ⌝ }
     ensures keeps { λ _. ⌜ Kept access-fits (access-fresh (S·Storage .view (now (storage .entry)) .word)) (A·Source .holds (now (arts .entry))) (A·Source .holds (now (arts .exit))) ⌝ }
@@ -43,12 +52,27 @@ impl Machine {
     fn access_key(&self, alet: u32) -> AccessKey
         ensures { λ r. ⌜ r ≡ key-of (registers (now (self .entry))) alet ⌝ }
     {
-        let origin = if flag(u64::from(alet), 39) { self.control.c5 } else { self.control.c2 };
-        AccessKey { alet, eax: field(self.control.c8, 32, 47) as u16, designation: field(origin, 33, 57) * 64 + 16 }
+        let origin = if flag(u64::from(alet), 39) {
+            self.control.c5
+        } else {
+            self.control.c2
+        };
+        AccessKey {
+            alet,
+            eax: field(self.control.c8, 32, 47) as u16,
+            designation: field(origin, 33, 57) * 64 + 16,
+        }
     }
 
     // The space of a token: 0 the primary, 1 the secondary, any other by lookup.
-    fn space_of_token<S: Storage, A: Source<AccessRegister>>(&self, storage: &S, arts: &mut A, alet: u32, list: &mut [u64], used: &mut usize) -> Result<Option<AccessAnswer>, Condition>
+    fn space_of_token<S: Storage, A: Source<AccessRegister>>(
+        &self,
+        storage: &S,
+        arts: &mut A,
+        alet: u32,
+        list: &mut [u64],
+        used: &mut usize,
+    ) -> Result<Option<AccessAnswer>, Condition>
         requires { ⌜ now used + 7 ≤ length (now list) ⌝ }
         ensures gives { λ r. ⌜ Stepped 7 (space-of-token (registers (now (self .entry))) (access-asks (A·Source .shows (now (arts .entry))) (S·Storage .view (now (storage .entry)) .word)) alet) (now (list .entry)) (now (used .entry)) (now (list .exit)) (now (used .exit)) r ⌝ }
         ensures keeps { λ _. ⌜ Kept access-fits (access-fresh (S·Storage .view (now (storage .entry)) .word)) (A·Source .holds (now (arts .entry))) (A·Source .holds (now (arts .exit))) ⌝ }
@@ -64,7 +88,14 @@ impl Machine {
     }
 
     // Access register 0 stands for the primary space, whatever it holds.
-    fn space_of_register<S: Storage, A: Source<AccessRegister>>(&self, storage: &S, arts: &mut A, register: usize, list: &mut [u64], used: &mut usize) -> Result<Option<AccessAnswer>, Condition>
+    fn space_of_register<S: Storage, A: Source<AccessRegister>>(
+        &self,
+        storage: &S,
+        arts: &mut A,
+        register: usize,
+        list: &mut [u64],
+        used: &mut usize,
+    ) -> Result<Option<AccessAnswer>, Condition>
         requires register { ⌜ register < 16 ⌝ }
         requires room { ⌜ now used + 7 ≤ length (now list) ⌝ }
         ensures gives { λ r. ⌜ Stepped 7 (space-of-register (registers (now (self .entry))) (access-asks (A·Source .shows (now (arts .entry))) (S·Storage .view (now (storage .entry)) .word)) register) (now (list .entry)) (now (used .entry)) (now (list .exit)) (now (used .exit)) r ⌝ }
@@ -78,7 +109,14 @@ impl Machine {
     }
 
     // The address space by mode, none with DAT off.
-    pub(crate) fn space<S: Storage, A: Source<AccessRegister>>(&self, storage: &S, arts: &mut A, register: usize, list: &mut [u64], used: &mut usize) -> Result<Option<AccessAnswer>, Condition>
+    pub(crate) fn space<S: Storage, A: Source<AccessRegister>>(
+        &self,
+        storage: &S,
+        arts: &mut A,
+        register: usize,
+        list: &mut [u64],
+        used: &mut usize,
+    ) -> Result<Option<AccessAnswer>, Condition>
         requires register { ⌜ register < 16 ⌝ }
         requires room { ⌜ now used + 7 ≤ length (now list) ⌝ }
         ensures gives { λ r. ⌜ Stepped 7 (space-by-mode (now (self .entry) .mode) (registers (now (self .entry))) (access-asks (A·Source .shows (now (arts .entry))) (S·Storage .view (now (storage .entry)) .word)) register) (now (list .entry)) (now (used .entry)) (now (list .exit)) (now (used .exit)) r ⌝ }

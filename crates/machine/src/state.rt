@@ -20,6 +20,15 @@ use storage::prefix::Prefixed;
 use storage::prefix::PrefixedStorage;
 use storage::storage::Storage;
 
+// Purges both sources.
+fn purge_both<A: Source<AccessRegister>, P: Source<Paging>>(arts: &mut A, pages: &mut P)
+    ensures empty { λ _. ⌜ Empty (A·Source .holds (now (arts .exit))) × Empty (P·Source .holds (now (pages .exit))) ⌝ }
+    ensures cleared { λ _. ⌜ A·Source .clears (now (arts .entry)) (now (arts .exit)) × P·Source .clears (now (pages .entry)) (now (pages .exit)) ⌝ }
+{
+    arts.purge();
+    pages.purge();
+}
+
 impl Machine {
     // A machine with zero registers; both sources are purged, whatever they held.
     pub fn new<A: Source<AccessRegister>, P: Source<Paging>>(arts: &mut A, pages: &mut P) -> Self
@@ -29,14 +38,34 @@ impl Machine {
         ensures arts_cleared { λ _. ⌜ A·Source .clears (now (arts .entry)) (now (arts .exit)) ⌝ }
         ensures pages_cleared { λ _. ⌜ P·Source .clears (now (pages .entry)) (now (pages .exit)) ⌝ }
     {
-        arts.purge();
-        pages.purge();
-        let control = Control { c0: 0, c1: 0, c2: 0, c5: 0, c7: 0, c8: 0, c13: 0 };
-        Machine { mode: 0, size: 0, key: 0, prefix: 0, control, access: [0; 16] }
+        purge_both(arts, pages);
+        let control = Control {
+            c0: 0,
+            c1: 0,
+            c2: 0,
+            c5: 0,
+            c7: 0,
+            c8: 0,
+            c13: 0,
+        };
+        Machine {
+            mode: 0,
+            size: 0,
+            key: 0,
+            prefix: 0,
+            control,
+            access: [0; 16],
+        }
     }
 
     // Sets the prefix and purges both sources; refuses an unlawful one and changes nothing.
-    pub fn set_prefix<S, A: Source<AccessRegister>, P: Source<Paging>>(&mut self, storage: &mut Prefixed<S>, arts: &mut A, pages: &mut P, prefix: u64) -> Result<(), Condition>
+    pub fn set_prefix<S, A: Source<AccessRegister>, P: Source<Paging>>(
+        &mut self,
+        storage: &mut Prefixed<S>,
+        arts: &mut A,
+        pages: &mut P,
+        prefix: u64,
+    ) -> Result<(), Condition>
         ensures result { λ r. ⌜ r ≡ cond (lawful-prefix prefix) (Ok tt) (Err BadPrefix) ⌝ }
         ensures registers { λ _. ⌜ registers (now (self .exit)) ≡ cond (lawful-prefix prefix) (with-prefix prefix (registers (now (self .entry)))) (registers (now (self .entry))) ⌝ }
         ensures storage { λ _. ⌜ now (storage .exit) .beneath ≡ now (storage .entry) .beneath ⌝ }
@@ -45,14 +74,25 @@ impl Machine {
         ensures refused { λ _. ⌜ (lawful-prefix prefix ≡ false → (now (storage .exit) ≡ now (storage .entry)) × (now (arts .exit) ≡ now (arts .entry)) × (now (pages .exit) ≡ now (pages .entry))) ⌝ }
     {
         storage.set_prefix(prefix)?;
-        arts.purge();
-        pages.purge();
-        *self = Machine { mode: self.mode, size: self.size, key: self.key, prefix, control: self.control, access: self.access };
+        purge_both(arts, pages);
+        *self = Machine {
+            mode: self.mode,
+            size: self.size,
+            key: self.key,
+            prefix,
+            control: self.control,
+            access: self.access,
+        };
         Ok(())
     }
 
     // Puts a doubleword at a real address, without protection.
-    pub fn put<S: Storage>(&mut self, storage: &mut Prefixed<S>, address: u64, value: u64) -> Result<(), Condition>
+    pub fn put<S: Storage>(
+        &mut self,
+        storage: &mut Prefixed<S>,
+        address: u64,
+        value: u64,
+    ) -> Result<(), Condition>
         ensures result { λ r. ⌜ r ≡ put-answer (prefixed (now (self .entry) .prefix) (S·Storage .view (now (storage .entry) .beneath))) address ⌝ }
         ensures registers { λ _. ⌜ now (self .exit) ≡ now (self .entry) ⌝ }
         ensures storage { λ _. ⌜ prefixed (now (self .entry) .prefix) (S·Storage .view (now (storage .exit) .beneath)) ≡ put-view (prefixed (now (self .entry) .prefix) (S·Storage .view (now (storage .entry) .beneath))) address value ⌝ }
@@ -67,7 +107,12 @@ impl Machine {
     }
 
     // Purges the named source and leaves the other.
-    pub fn purge<A: Source<AccessRegister>, P: Source<Paging>>(&mut self, arts: &mut A, pages: &mut P, source: SourceName)
+    pub fn purge<A: Source<AccessRegister>, P: Source<Paging>>(
+        &mut self,
+        arts: &mut A,
+        pages: &mut P,
+        source: SourceName,
+    )
         ensures registers { λ _. ⌜ now (self .exit) ≡ now (self .entry) ⌝ }
         ensures sources { λ _. ⌜ Purged source (Empty (A·Source .holds (now (arts .exit)))) (now (arts .exit) ≡ now (arts .entry)) (Empty (P·Source .holds (now (pages .exit)))) (now (pages .exit) ≡ now (pages .entry)) ⌝ }
         ensures cleared { λ _. ⌜ Purged source (A·Source .clears (now (arts .entry)) (now (arts .exit))) (now (arts .exit) ≡ now (arts .entry)) (P·Source .clears (now (pages .entry)) (now (pages .exit))) (now (pages .exit) ≡ now (pages .entry)) ⌝ }

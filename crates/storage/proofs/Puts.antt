@@ -81,7 +81,7 @@ module _ (ws : List Word) (ks : List BlockKey) (i a x : ℕ) (within : i < lengt
   put-done =
       (λ j. record {
         word = fun-ext (λ b. word-put (key-at ks (block-of b)) (value-at ws b) (value-at (set ws i (changed (getD ws i none) x)) b) x (eqb b a) (λ same. ap (λ n. isSome (key-at ks (block-of n))) (eqb-true b a same) ∙ key) (value-set ws i a x within before here b)) j;
-        key = key-at ks
+        key = key-at ks;
       }) ∙ sym (ap (λ t. cond t (stored (sparse-view ws ks) a x) (sparse-view ws ks)) present)
 
   pub put-said : Ok tt ≡ put-result (sparse-view ws ks) a

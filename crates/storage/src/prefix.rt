@@ -41,12 +41,6 @@ impl<S> Prefixed<S> {
         Prefixed { beneath, prefix: 0 }
     }
 
-    pub fn prefix(&self) -> u64
-        ensures { λ r. ⌜ r ≡ now (self .entry) .prefix ⌝ }
-    {
-        self.prefix
-    }
-
     // Sets the prefix; refuses what is no multiple of 8,192 below 2^31, and changes nothing then.
     pub fn set_prefix(&mut self, prefix: u64) -> Result<(), Condition>
         ensures result { λ r. ⌜ r ≡ cond (lawful-prefix prefix) (Ok tt) (Err BadPrefix) ⌝ }
@@ -82,6 +76,7 @@ pub impl<S: Storage> Storage for Prefixed<S> as PrefixedStorage {
         ensures prefix { λ _. ⌜ now (self .exit) .prefix ≡ now (self .entry) .prefix ⌝ }
         ensures under { λ _. ⌜ S·Storage .view (now (self .exit) .beneath) ≡ after-put (S·Storage .view (now (self .entry) .beneath)) (exchange 8192 (now (self .entry) .prefix) address) value ⌝ }
     {
-        self.beneath.put(exchanged(8192, self.prefix, address), value)
+        self.beneath
+            .put(exchanged(8192, self.prefix, address), value)
     }
 }

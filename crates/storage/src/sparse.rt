@@ -32,7 +32,11 @@ fn first_key(keys: &[BlockKey], block: u64) -> Option<u8>
 {
     for entry in keys {
         if entry.block == block {
-            return if entry.key < 32 { Some(entry.key) } else { None };
+            return if entry.key < 32 {
+                Some(entry.key)
+            } else {
+                None
+            };
         }
     }
     None

@@ -25,7 +25,7 @@ returns g c =
     let shown-p = g .P·Source .shows (c .args .pages .now) in
     let view = prefixed (m .prefix) (g .S·Storage .view (c .args .storage .now .beneath)) in
     let same : prefixed (c .set-prefix .last .self .prefix) (g .S·Storage .view (c .set-prefix .last .self .beneath)) ≡ view =
-        ap₂ (λ p b. prefixed p (g .S·Storage .view b)) (prefix-set _ (m .prefix) (m .bounds .3) (m .bounds .4) (c .set-prefix .ensures .prefix)) (c .set-prefix .ensures .under) in
+    ap₂ (λ p b. prefixed p (g .S·Storage .view b)) (prefix-set _ (m .prefix) (m .bounds .3) (m .bounds .4) (c .set-prefix .ensures .prefix)) (c .set-prefix .ensures .under) in
     let step = λ (v : View). Stepped 12 (reach (registers m) (access-asks shown-a (v .word)) (page-asks shown-p (v .word)) v (c .args .access) (c .args .register) (c .cut .result)) (c .args .list .now) 0 (c .reach-result .last .list) (c .reach-result .last .used) (c .reach-result .result) in
     let reached = subst step same (c .reach-result .ensures .gives) in
     let plain = not-refused (registers m) (access-asks shown-a (view .word)) (page-asks shown-p (view .word)) view (c .args .access) (c .args .register) (c .args .address) (length (c .args .list .now)) (c .if-register-gt15 .left) (c .if-list-lt12 .left) in
