@@ -1,0 +1,91 @@
+// The listing of a run: a line for each call that says something, or the one line of a refused text.
+use arch::call::Call;
+use arch::condition::Condition;
+use arch::record::BlockKey;
+use arch::record::Word;
+use lookup::kinds::AccessRegisterKind;
+use lookup::kinds::PagingKind;
+use lookup::source::TableWalk;
+use lookup::source::TableWalkSource;
+use machine::Counted;
+use machine::Machine;
+use machine::Outcome;
+use runtext::Counts;
+use std::alloc::AllocError;
+use std::alloc::Global;
+use std::fmt;
+use std::fmt::Write;
+use storage::prefix::Prefixed;
+use storage::sparse::Sparse;
+use storage::sparse::SparseStorage;
+
+// Places for all that a text can say: a call's line has four bytes or more.
+const WORDS: usize = 1024;
+const KEYS: usize = 256;
+const CALLS: usize = 16384;
+
+// The line of a refusal.
+fn refused(out: &mut String, line: usize, condition: Condition, count: usize) -> fmt::Result {
+    let code = condition.code();
+    let name = condition.name();
+    writeln!(out, "{line}\tE\t{code}\t{name}\t{count}")
+}
+
+// The line of a translation.
+fn translated(out: &mut String, line: usize, outcome: Counted<u64>) -> fmt::Result {
+    let count = outcome.count;
+    match outcome.result {
+        Ok(real) => writeln!(out, "{line}\tR\t{real:x}\t{count}"),
+        Err(condition) => refused(out, line, condition, count),
+    }
+}
+
+// What a listing says of one call.
+fn listed(out: &mut String, line: usize, outcome: Outcome) -> fmt::Result {
+    match outcome {
+        Outcome::Loaded(Ok(())) => Ok(()),
+        Outcome::Loaded(Err(condition)) => refused(out, line, condition, 0),
+        Outcome::Translated(counted) => translated(out, line, counted),
+        Outcome::Put(Ok(())) => writeln!(out, "{line}\tW"),
+        Outcome::Put(Err(condition)) => refused(out, line, condition, 0),
+        Outcome::Purged => writeln!(out, "{line}\tZ"),
+    }
+}
+
+// Makes the calls of a run, the first of which stands on `line`.
+fn run(out: &mut String, line: usize, words: &mut [Word], keys: &[BlockKey], calls: &[Call]) -> fmt::Result {
+    let mut storage = Prefixed::new(Sparse { words, keys });
+    let mut arts = TableWalk;
+    let mut pages = TableWalk;
+    let mut machine = Machine::new(&mut arts, &mut pages);
+    for (i, call) in calls.iter().enumerate() {
+        let outcome = machine.perform(&mut storage, &mut arts, &mut pages, *call);
+        listed(out, line.saturating_add(i), outcome)?;
+    }
+    Ok(())
+}
+
+// Want of memory is the only way for a listing to fail.
+fn stored(written: fmt::Result) -> Result<(), AllocError> {
+    match written {
+        Ok(()) => Ok(()),
+        Err(_) => Err(AllocError),
+    }
+}
+
+// The listing of a run text.
+pub fn list(heap: Global, text: &[u8]) -> Result<String, AllocError> {
+    let mut words = vec![in heap; Word { address: 0, value: 0 }; WORDS]?;
+    let mut keys = vec![in heap; BlockKey { block: 0, key: 0 }; KEYS]?;
+    let mut calls = vec![in heap; Call::SetPrefix { prefix: 0 }; CALLS]?;
+    let mut out = String::new(heap);
+    match runtext::read(text, &mut words, &mut keys, &mut calls) {
+        Ok(n) => {
+            let Counts { words: w, keys: k, calls: c } = n;
+            let line = w.saturating_add(k).saturating_add(2);
+            stored(run(&mut out, line, &mut words[0..w], &keys[0..k], &calls[0..c]))?;
+        }
+        Err(refusal) => stored(refused(&mut out, refusal.line, refusal.condition, 0))?,
+    }
+    Ok(out)
+}
