@@ -1,14 +1,13 @@
 -- Where a text is cut. Assumes nothing.
 use mathlib.Core.Path.{_≡_, refl, sym, ap, subst, _∙_}
-use mathlib.Core.List.{List, [], _∷_, _++_, append-nil}
-use Prim.Native.Nat.{ℕ, _+_, _≤_, _<_}
+use mathlib.Core.List.{List, [], _∷_, _++_}
+use Prim.Native.Nat.{ℕ, _<_}
 use native.Mathlib.Omega.{arith}
-use lib.ListN.{length}
-use Rattle.std.proofs.shelf.Elements.{all-from-getD, all-append}
+use Rattle.std.proofs.shelf.Elements.{all-from-getD}
 use Rattle.std.specs.declared.option.Option.{Option}
 use Rattle.std.specs.declared.option.Option.the-variants.{Some, None}
 use Rattle.runtext.specs.Lines.{two}
-use Rattle.runtext.specs.Numerals.{numeral, hexit}
+use Rattle.runtext.specs.Numerals.{numeral}
 use Rattle.runtext.specs.Reading.{Lacks, Cut}
 use Rattle.runtext.proofs.Numerals.{numeral-hexit, numeral-same, hexit-least}
 

@@ -15,10 +15,11 @@ use Rattle.runtext.specs.declared.Counts.{Counts}
 use Rattle.runtext.specs.declared.line.Line.{Line}
 use Rattle.runtext.specs.declared.line.Line.the-variants as line
 use Rattle.runtext.specs.Lines.{kind-of, spell-line, Sound}
-use Rattle.runtext.specs.Runs.{Run, header, counts, lent, run-in, Spells}
-use Rattle.runtext.specs.Verdicts.{Full, Goes, Steps, Put-in, Filled, one-more, no-lines}
+use Rattle.runtext.specs.Passes.{Steps, Put-in, Filled, one-more}
+use Rattle.runtext.specs.Runs.{Run, header, lent, run-in, Spells}
+use Rattle.runtext.specs.Verdicts.{Full, Goes, no-lines}
 use Rattle.runtext.proofs.Runs.{text-same}
-use Rattle.runtext.proofs.Sofar.{Sofar, add, start, further, done, no-run}
+use Rattle.runtext.proofs.Sofar.{Sofar, start, further, done, no-run}
 
 -- one place more of a list
 record Placed {X : Type 0} (xs xs′ xs″ : List X) (n : ℕ) (x : X) : Type 0 where

@@ -2,7 +2,7 @@
 use mathlib.Core.Path.{_≡_, refl, sym, ap, subst, _∙_}
 use mathlib.Core.Bool.{cond}
 use mathlib.Core.List.{List, [], _∷_, _++_, append-assoc}
-use Prim.Native.Nat.{ℕ, _≤_, _<_}
+use Prim.Native.Nat.{ℕ, _≤_}
 use native.Mathlib.Omega.{arith}
 use lib.Dec.{eqb}
 use lib.ListN.{length}
@@ -19,15 +19,12 @@ use Rattle.runtext.specs.declared.line.Kind.{Kind}
 use Rattle.runtext.specs.declared.line.Kind.the-variants as kind
 use Rattle.runtext.specs.declared.line.Line.{Line}
 use Rattle.runtext.specs.declared.line.Line.the-variants as line
-use Rattle.runtext.specs.declared.line.Verb.{Verb}
 use Rattle.runtext.specs.declared.line.Verb.the-variants as verb
-use Rattle.runtext.specs.Lines.{letter, access-letter, source-letter, two, call-fields, fields, verb-of, kind-of, spell-fields, spell-line}
+use Rattle.runtext.specs.Lines.{letter, access-letter, source-letter, two, call-fields, fields, kind-of, spell-fields, spell-line}
 use Rattle.runtext.specs.Numerals.{numeral}
 use Rattle.runtext.specs.Reading.{Reads, Lacks, Cut}
 use Rattle.runtext.specs.Runs.{header}
-use Rattle.runtext.proofs.ByKind.{by-kind, by-verb}
-use Rattle.runtext.proofs.Cuts.{head-same, tail-same, cut-same, cut-finds, numeral-lacks, two-same}
-use Rattle.runtext.proofs.Numerals.{numeral-same}
+use Rattle.runtext.proofs.Cuts.{cut-finds, numeral-lacks}
 
 -- letters name one thing each
 unletter : ℕ → Kind

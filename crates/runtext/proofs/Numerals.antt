@@ -1,6 +1,5 @@
 -- Laws of the numerals of a run text. Assumes nothing.
-use mathlib.Core.Path.{_≡_, refl, sym, ap, subst, _∙_}
-use mathlib.Core.Logic.{⊎-elim}
+use mathlib.Core.Path.{_≡_, refl, sym, ap, _∙_}
 use mathlib.Core.List.{List, [], _∷_, _++_, map}
 use Prim.Native.Nat.{ℕ, zero, suc, _+_, _*_, _/_, _%_, _^_, _≤_, _<_}
 use native.Mathlib.Nat.{pow-suc, pow-le-pow-right}
@@ -8,14 +7,11 @@ use native.Mathlib.Numerals.{add-one}
 use native.Mathlib.Omega.{arith}
 use lib.ListN.{length, getD, drop, length-map}
 use Rattle.std.proofs.shelf.Digits.{digitsOf-step, length-digitsOf-le, under-digitsOf, first-digitsOf, same-from-digitsOf}
-use Rattle.std.proofs.shelf.Elements.{all-getD, all-weaker, all-map}
+use Rattle.std.proofs.shelf.Elements.{all-getD}
 use Rattle.std.proofs.shelf.Lists.{getD-map, map-push}
-use Rattle.std.proofs.shelf.Tests.{cases-lt, lt-ltb, le-ltb, cond-true, cond-false}
 use Rattle.std.proofs.shelf.Ways.{tells}
 use Rattle.std.specs.shelf.Digits.{digitsOf, Under}
-use Rattle.std.specs.shelf.Lists.{All}
 use Rattle.runtext.specs.Numerals.{hexit, numeral}
-use Rattle.runtext.specs.Reading.{Lacks}
 
 pub hexit-least : (d : ℕ) → 48 ≤ hexit d
 hexit-least d = grind (arith, tells)

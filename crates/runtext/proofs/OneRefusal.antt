@@ -2,13 +2,13 @@
 use mathlib.Core.Path.{_≡_, refl, sym, ap, subst, _∙_}
 use mathlib.Core.Logic.{_⊎_, inl, inr, ⊎-elim}
 use mathlib.Core.Bool.{Bool, true, false}
-use mathlib.Core.List.{List, [], _∷_, _++_, append-nil, append-assoc}
-use Prim.Native.Nat.{ℕ, _+_, _≤_, _<_}
+use mathlib.Core.List.{List, [], _∷_, _++_, append-assoc}
+use Prim.Native.Nat.{ℕ, _+_, _≤_}
 use native.Mathlib.Omega.{arith}
 use lib.Dec.{eqb, ltb}
 use lib.ListN.{length, drop}
 use Rattle.arch.specs.declared.condition.Condition.{Condition}
-use Rattle.arch.specs.declared.condition.Condition.the-variants.{TooMuch, BadText}
+use Rattle.arch.specs.declared.condition.Condition.the-variants.{TooMuch}
 use Rattle.std.proofs.shelf.Fronts.{front-rest}
 use Rattle.std.proofs.shelf.Tests.{ltb-false, le-ltb, ne-eqb, cond-false}
 use Rattle.std.specs.Joined.{joined}
@@ -17,10 +17,10 @@ use Rattle.std.specs.shelf.Lists.{All}
 use Rattle.runtext.specs.declared.Counts.{Counts}
 use Rattle.runtext.specs.declared.Refusal.{Refusal}
 use Rattle.runtext.specs.declared.line.Line.{Line}
-use Rattle.runtext.specs.Lines.{kind-of, spell-fields, spell-line, Sound}
+use Rattle.runtext.specs.Lines.{spell-fields, spell-line, Sound}
 use Rattle.runtext.specs.Reading.{Lacks}
 use Rattle.runtext.specs.Runs.{Run, lines, header, spell, counts, Readable}
-use Rattle.runtext.specs.Verdicts.{Goes, Blames, Before, Bad-line, Refused, first-field, first-line, no-lines}
+use Rattle.runtext.specs.Verdicts.{Blames, Before, Bad-line, Refused, first-field, first-line}
 use Rattle.runtext.proofs.Lines.{spell-lacks}
 use Rattle.runtext.proofs.Runs.{line-same, lines-same, goes, held, joined-append}
 use Rattle.runtext.proofs.Sofar.{Sofar, add, empty, start, further, spell-add, spell-empty}

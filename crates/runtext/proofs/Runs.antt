@@ -1,18 +1,15 @@
 -- Runs and their texts: a text says one run, and how a run goes on. Assumes nothing.
 use mathlib.Core.Path.{_≡_, refl, sym, ap, subst, _∙_}
-use mathlib.Core.Logic.{_⊎_, inl, inr, ⊎-elim}
+use mathlib.Core.Logic.{_⊎_, inl, inr}
 use mathlib.Core.List.{List, [], _∷_, _++_, map, append-nil, append-assoc}
-use Prim.Native.Nat.{ℕ, _+_, min, _≤_, _<_}
+use Prim.Native.Nat.{ℕ, _+_}
 use native.Mathlib.Omega.{arith}
-use lib.ListN.{length, drop, length-append, length-map}
-use Rattle.arch.specs.declared.call.Access.{Access}
+use lib.ListN.{length, drop, length-append}
 use Rattle.arch.specs.declared.call.Call.{Call}
 use Rattle.arch.specs.declared.call.Call.the-variants as call
-use Rattle.arch.specs.declared.call.SourceName.{SourceName}
 use Rattle.arch.specs.declared.record.BlockKey.{BlockKey}
 use Rattle.arch.specs.declared.record.Word.{Word}
-use Rattle.std.proofs.shelf.Elements.{all-append, all-push}
-use Rattle.std.proofs.shelf.Lists.{map-push, nil-from-length, length-push}
+use Rattle.std.proofs.shelf.Elements.{all-append}
 use Rattle.std.specs.Joined.{joined}
 use Rattle.std.specs.shelf.Lists.{All}
 use Rattle.runtext.specs.declared.Counts.{Counts}
@@ -23,8 +20,8 @@ use Rattle.runtext.specs.declared.line.Line.the-variants as line
 use Rattle.runtext.specs.declared.line.Verb.the-variants as verb
 use Rattle.runtext.specs.Lines.{letter, two, call-fields, fields, verb-of, kind-of, spell-fields, spell-line, Sound}
 use Rattle.runtext.specs.Numerals.{numeral}
-use Rattle.runtext.specs.Runs.{Run, lines, header, spell, counts, Spellable, Readable}
-use Rattle.runtext.specs.Verdicts.{Full, Late, Goes}
+use Rattle.runtext.specs.Runs.{Run, lines, spell, counts, Readable}
+use Rattle.runtext.specs.Verdicts.{Goes}
 use Rattle.runtext.proofs.ByKind.{by-kind, by-verb}
 use Rattle.runtext.proofs.Cuts.{head-same, tail-same, cut-same, numeral-lacks, two-same}
 use Rattle.runtext.proofs.Lines.{letter-same, access-same, source-same, spell-lacks}

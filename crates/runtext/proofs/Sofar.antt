@@ -1,13 +1,11 @@
 -- How far a reader has come. Assumes nothing.
 use mathlib.Core.Path.{_≡_, refl, sym, ap, subst, _∙_}
-use mathlib.Core.Logic.{_⊎_, inl, inr, ⊎-elim}
+use mathlib.Core.Logic.{inl, inr, ⊎-elim}
 use mathlib.Core.List.{List, [], _∷_, _++_, map, append-nil, append-assoc}
 use Prim.Native.Nat.{ℕ, _+_, _≤_, _<_}
 use native.Mathlib.Omega.{arith}
 use lib.ListN.{length, length-append, length-map}
 use Rattle.arch.specs.declared.call.Call.{Call}
-use Rattle.arch.specs.declared.record.BlockKey.{BlockKey}
-use Rattle.arch.specs.declared.record.Word.{Word}
 use Rattle.std.proofs.shelf.Elements.{all-push}
 use Rattle.std.proofs.shelf.Lists.{map-push, nil-from-length, length-push}
 use Rattle.std.proofs.shelf.Tests.{cases-eq}
@@ -16,13 +14,13 @@ use Rattle.std.specs.shelf.Lists.{All}
 use Rattle.std.specs.declared.option.Option.the-variants.{None}
 use Rattle.runtext.specs.declared.Counts.{Counts}
 use Rattle.runtext.specs.declared.Refusal.{Refusal}
-use Rattle.runtext.specs.declared.line.Kind.{Kind}
 use Rattle.runtext.specs.declared.line.Line.{Line}
 use Rattle.runtext.specs.declared.line.Line.the-variants as line
 use Rattle.runtext.specs.Lines.{kind-of, spell-fields, spell-line, Sound}
 use Rattle.runtext.specs.Reading.{Lacks}
-use Rattle.runtext.specs.Runs.{Run, lines, header, spell, counts, Spellable, Readable, Spells}
-use Rattle.runtext.specs.Verdicts.{Full, Late, Goes, Steps, Blames, Bad-line, one-more, no-lines, first-field, first-line}
+use Rattle.runtext.specs.Passes.{Steps, one-more}
+use Rattle.runtext.specs.Runs.{Run, lines, header, spell, counts, Readable, Spells}
+use Rattle.runtext.specs.Verdicts.{Full, Late, Goes, Blames, Bad-line, no-lines, first-field, first-line}
 use Rattle.runtext.proofs.FirstField.{line-rest, line-ended}
 use Rattle.runtext.proofs.Lines.{spell-lacks, title, title-lacks}
 use Rattle.runtext.proofs.Runs.{joined-append, next-line}

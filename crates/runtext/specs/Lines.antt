@@ -11,8 +11,6 @@ use Rattle.arch.specs.declared.call.Call.{Call}
 use Rattle.arch.specs.declared.call.Call.the-variants as call
 use Rattle.arch.specs.declared.call.SourceName.{SourceName}
 use Rattle.arch.specs.declared.call.SourceName.the-variants.{AccessRegister, Page}
-use Rattle.arch.specs.declared.record.BlockKey.{BlockKey}
-use Rattle.arch.specs.declared.record.Word.{Word}
 use Rattle.runtext.specs.declared.line.Kind.{Kind}
 use Rattle.runtext.specs.declared.line.Kind.the-variants as kind
 use Rattle.runtext.specs.declared.line.Line.{Line}

@@ -1,8 +1,9 @@
 // The reader of run texts: what a run is made of, in lines of fields.
 ghost use mathlib.Core.Path.{_≡_};
 ghost use Rattle.std.specs.Vec.{made, refused};
+ghost use Rattle.runtext.specs.Passes.{Filled};
 ghost use Rattle.runtext.specs.Runs.{Run, Spells, lent};
-ghost use Rattle.runtext.specs.Verdicts.{Filled, Refused};
+ghost use Rattle.runtext.specs.Verdicts.{Refused};
 use arch::call::Call;
 use arch::condition::Condition;
 use arch::condition::ConditionDebug;

@@ -11,7 +11,7 @@ returns-in-Break-judge c =
     let told = c .in-Break-judge .ensures tt in
     let e = c .in-Break-judge .field-0 .0 in
     let places = lent (c .args .words .now) (c .args .keys .now) (c .args .calls .now) in
-    let bad : Refused places (c .args .text .now) e = refused-short places (c .args .text .now) e (c .if-text-gt-BYTES .left) (told .0) in
+    let bad : Refused places (c .args .text .now) e = refused-short places (c .args .text .now) e (omega arith) (told .0) in
     let p = err-from-errBy (c .from-residual .result) (c .from-residual .ensures .1) in
     rw (p .1, p .2) (record {
       accepted = tt;

@@ -1,9 +1,9 @@
 use mathlib.Core.Path.{_≡_, refl, sym, ap, subst, _∙_}
 use mathlib.Core.List.{_∷_, _++_}
-use Prim.Native.Nat.{_<_, _+_}
+use Prim.Native.Nat.{_+_}
 use native.Mathlib.Nat.{sub-zero}
 use native.Mathlib.Omega.{arith}
-use lib.ListN.{length, getD, take, drop, take-append-drop}
+use lib.ListN.{take, drop, take-append-drop}
 use Rattle.std.proofs.shelf.Elements.{all-more}
 use Rattle.std.proofs.shelf.Lists.{drop-more, take-rest, take-all}
 use Rattle.runtext.specs.Reading.{Lacks}

@@ -1,4 +1,4 @@
-use mathlib.Core.Path.{_≡_, sym, ap, _∙_}
+use mathlib.Core.Path.{_≡_, sym, _∙_}
 use native.Mathlib.Omega.{arith}
 use Rattle.runtext.specs.Lines.{Sound, fields}
 use Rattle.runtext.specs.declared.line.Kind.the-variants.{Key}

@@ -1,12 +1,11 @@
 use mathlib.Core.Path.{_≡_, sym, ap, _∙_}
 use mathlib.Core.List.{[], _∷_}
-use native.Mathlib.Omega.{arith}
 use denote.Ref.{now}
 use Rattle.std.specs.Options.{mapped}
 use Rattle.runtext.specs.Lines.{Sound-call, access-letter, call-fields, two}
 use Rattle.runtext.specs.declared.line.Verb.the-variants.{Translate}
 use Rattle.runtext.proofs.ByKind.{by-verb, access-lacks}
-use Rattle.runtext.proofs.Cuts.{cut-finds, none-some, some-same}
+use Rattle.runtext.proofs.Cuts.{cut-finds, some-same}
 use Rattle.runtext.proofs.line.translate.Needs as need
 
 pub returns-in-Break-letter : need.returns-in-Break-letter

@@ -1,14 +1,13 @@
-use mathlib.Core.Path.{_≡_, refl, sym, ap, subst, _∙_}
+use mathlib.Core.Path.{_≡_, sym, ap, _∙_}
 use mathlib.Core.Logic.{⊎-elim}
-use mathlib.Core.List.{List, [], _∷_, _++_, map}
-use Prim.Native.Nat.{ℕ, _<_, _≤_, _+_, _*_, _^_}
+use mathlib.Core.List.{List, [], _∷_, _++_}
+use Prim.Native.Nat.{ℕ, _<_, _≤_, _+_, _*_}
 use native.Mathlib.Omega.{arith}
-use lib.ListN.{length, getD, take, drop}
-use Rattle.std.proofs.shelf.Lists.{take-all, take-more, ext-getD, getD-read}
+use lib.ListN.{length, getD}
+use Rattle.std.proofs.shelf.Lists.{take-all, take-more}
 use Rattle.std.proofs.shelf.Tests.{cases-eq}
-use Rattle.std.specs.shelf.Digits.{digitsOf}
 use Rattle.runtext.specs.Numerals.{numeral, hexit}
-use Rattle.runtext.proofs.Numerals.{numeral-some, numeral-short, numeral-hexit, numeral-lead, numeral-zero, numeral-positive, digits-more, hexit-zero, under-more, under-all, lone}
+use Rattle.runtext.proofs.Numerals.{numeral-some, numeral-short, numeral-hexit, numeral-lead, numeral-zero, numeral-positive, digits-more, under-more, under-all, lone}
 use Rattle.runtext.proofs.number.number.Needs as need
 
 pub returns-then-field-eq0 : need.returns-then-field-eq0

@@ -1,5 +1,5 @@
-use mathlib.Core.Path.{_≡_, refl, sym, ap, subst, _∙_}
-use mathlib.Core.Logic.{inl, inr}
+use mathlib.Core.Path.{refl, _∙_}
+use mathlib.Core.Logic.{inr}
 use Rattle.runtext.specs.Lines.{letter}
 use Rattle.runtext.proofs.FirstField.{field-found}
 use Rattle.runtext.proofs.step.blame.Needs as need
