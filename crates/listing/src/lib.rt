@@ -21,7 +21,9 @@ use storage::sparse::SparseStorage;
 
 // Places for all that a text can say: a call's line has four bytes or more.
 const WORDS: usize = 1024;
+
 const KEYS: usize = 256;
+
 const CALLS: usize = 16384;
 
 // The line of a refusal.
@@ -53,7 +55,13 @@ fn listed(out: &mut String, line: usize, outcome: Outcome) -> fmt::Result {
 }
 
 // Makes the calls of a run, the first of which stands on `line`.
-fn run(out: &mut String, line: usize, words: &mut [Word], keys: &[BlockKey], calls: &[Call]) -> fmt::Result {
+fn run(
+    out: &mut String,
+    line: usize,
+    words: &mut [Word],
+    keys: &[BlockKey],
+    calls: &[Call],
+) -> fmt::Result {
     let mut storage = Prefixed::new(Sparse { words, keys });
     let mut arts = TableWalk;
     let mut pages = TableWalk;
@@ -75,13 +83,20 @@ fn stored(written: fmt::Result) -> Result<(), AllocError> {
 
 // The listing of a run text.
 pub fn list(heap: Global, text: &[u8]) -> Result<String, AllocError> {
-    let mut words = vec![in heap; Word { address: 0, value: 0 }; WORDS]?;
+    let mut words = vec![in heap; Word {
+        address: 0,
+        value: 0
+    }; WORDS]?;
     let mut keys = vec![in heap; BlockKey { block: 0, key: 0 }; KEYS]?;
     let mut calls = vec![in heap; Call::SetPrefix { prefix: 0 }; CALLS]?;
     let mut out = String::new(heap);
     match runtext::read(text, &mut words, &mut keys, &mut calls) {
         Ok(n) => {
-            let Counts { words: w, keys: k, calls: c } = n;
+            let Counts {
+                words: w,
+                keys: k,
+                calls: c,
+            } = n;
             let line = w.saturating_add(k).saturating_add(2);
             stored(run(&mut out, line, &mut words[0..w], &keys[0..k], &calls[0..c]))?;
         }
