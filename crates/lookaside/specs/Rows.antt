@@ -1,11 +1,13 @@
 -- Rows of words, and what is found in them.
 use Prim.Native.Nat.{ℕ, _%_}
-use mathlib.Core.Path.{_≡_, refl, ap, _∙_}
+use mathlib.Core.Path.{_≡_}
 use mathlib.Core.Bool.{Bool, true, false, cond, _&&_}
-use mathlib.Core.List.{List, [], _∷_}
+use mathlib.Core.List.{List}
 use lib.Bits.{bitXor}
 use lib.Dec.{eqb}
-use lib.ListN.{length, getD, set, replicate}
+use lib.ListN.{getD}
+use Rattle.std.specs.Options.{mapped}
+use Rattle.storage.specs.Records.{first}
 use Rattle.std.specs.declared.option.Option.{Option}
 use Rattle.std.specs.declared.option.Option.the-variants.{Some, None}
 use Rattle.lookup.specs.declared.words.Words.{Words}
@@ -24,14 +26,13 @@ full-row k a = record { full = true; key = k; answer = a }
 abbrev pub matches : Words → Row → Bool
 matches k r = r .full && (eqb (r .key .first) (k .first) && eqb (r .key .second) (k .second))
 
--- the answer of a row, where it matches
-abbrev pub answer-of : Words → Row → Option Words → Option Words
-answer-of k r other = cond (matches k r) (Some (r .answer)) other
-
 -- the answer of the first row that matches, from row 0 up
 abbrev pub first-answer : List Row → Words → Option Words
-first-answer [] k = None
-first-answer (r ∷ rs) k = answer-of k r (first-answer rs k)
+first-answer rows k = mapped (λ r. r .answer) (first (matches k) rows)
+
+-- the answer of one row, where it matches
+abbrev pub row-answer : Row → Words → Option Words
+row-answer r k = cond (matches k r) (Some (r .answer)) None
 
 -- some row holds this pair of words
 abbrev pub Kept-row : List Row → Words → Words → Type 0
