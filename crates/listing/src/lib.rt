@@ -3,6 +3,13 @@ use arch::call::Call;
 use arch::condition::Condition;
 use arch::record::BlockKey;
 use arch::record::Word;
+use lookaside::direct_mapped::DirectMapped;
+use lookaside::direct_mapped::DirectMappedRows;
+use lookaside::direct_mapped::DirectMappedTable;
+use lookaside::lookaside::LookasideSource;
+use lookaside::round_robin::RoundRobin;
+use lookaside::round_robin::RoundRobinRows;
+use lookaside::round_robin::RoundRobinTable;
 use lookup::kinds::AccessRegisterKind;
 use lookup::kinds::PagingKind;
 use lookup::source::TableWalk;
@@ -54,6 +61,20 @@ fn listed(out: &mut String, line: usize, outcome: Outcome) -> fmt::Result {
     }
 }
 
+// What each source of a listing is: a direct-mapped lookaside over a round-robin one over the walk.
+type Stack = DirectMapped<RoundRobin<TableWalk>>;
+
+fn stack() -> Stack
+{
+    DirectMapped {
+        table: DirectMappedTable::new(),
+        beneath: RoundRobin {
+            table: RoundRobinTable::new(),
+            beneath: TableWalk,
+        },
+    }
+}
+
 // Makes the calls of a run, the first of which stands on `line`.
 fn run(
     out: &mut String,
@@ -63,8 +84,8 @@ fn run(
     calls: &[Call],
 ) -> fmt::Result {
     let mut storage = Prefixed::new(Sparse { words, keys });
-    let mut arts = TableWalk;
-    let mut pages = TableWalk;
+    let mut arts = stack();
+    let mut pages = stack();
     let mut machine = Machine::new(&mut arts, &mut pages);
     for (i, call) in calls.iter().enumerate() {
         let outcome = machine.perform(&mut storage, &mut arts, &mut pages, *call);

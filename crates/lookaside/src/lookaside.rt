@@ -9,6 +9,7 @@ use lookup::kind::Kind;
 use lookup::source::Source;
 use storage::storage::Storage;
 
+#[derive(Drop)]
 pub struct Lookaside<T, B> {
     pub table: T,
     pub beneath: B,
