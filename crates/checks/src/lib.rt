@@ -6,6 +6,8 @@ type Case = (&'static str, &'static str);
 #[cfg(test)]
 mod tests {
     use super::*;
+    use std::alloc::AllocError;
+    use std::alloc::Global;
     use std::test::*;
 
     const CASES: [Case; 40] = [
@@ -121,13 +123,98 @@ mod tests {
         ),
     ];
 
-    #[test]
-    fn texts_list_as_written(rt: LibcRuntime) -> Result<(), Fail> {
-        for case in CASES.iter() {
+    // Runs through both lookasides.
+    const HELD: [Case; 9] = [
+        // forty pages: the round-robin rows are displaced in turn
+        (
+            "RUN\t1\nD\t10000\t20000\nD\t20000\t45000\nD\t20008\t45000\nD\t20010\t45000\nD\t20018\t45000\nD\t20020\t45000\nD\t20028\t45000\nD\t20030\t45000\nD\t20038\t45000\nD\t20040\t45000\nD\t20048\t45000\nD\t20050\t45000\nD\t20058\t45000\nD\t20060\t45000\nD\t20068\t45000\nD\t20070\t45000\nD\t20078\t45000\nD\t20080\t45000\nD\t20088\t45000\nD\t20090\t45000\nD\t20098\t45000\nD\t200a0\t45000\nD\t200a8\t45000\nD\t200b0\t45000\nD\t200b8\t45000\nD\t200c0\t45000\nD\t200c8\t45000\nD\t200d0\t45000\nD\t200d8\t45000\nD\t200e0\t45000\nD\t200e8\t45000\nD\t200f0\t45000\nD\t200f8\t45000\nD\t20100\t45000\nD\t20108\t45000\nD\t20110\t45000\nD\t20118\t45000\nD\t20120\t45000\nD\t20128\t45000\nD\t20130\t45000\nD\t20138\t45000\nD\t45000\t0\nK\t10\t0\nK\t20\t0\nK\t45\t0\nC\t1\t10000\nM\t1\t2\t0\nT\tF\t0\t0\nT\tF\t0\t1000\nT\tF\t0\t2000\nT\tF\t0\t3000\nT\tF\t0\t4000\nT\tF\t0\t5000\nT\tF\t0\t6000\nT\tF\t0\t7000\nT\tF\t0\t8000\nT\tF\t0\t9000\nT\tF\t0\ta000\nT\tF\t0\tb000\nT\tF\t0\tc000\nT\tF\t0\td000\nT\tF\t0\te000\nT\tF\t0\tf000\nT\tF\t0\t10000\nT\tF\t0\t11000\nT\tF\t0\t12000\nT\tF\t0\t13000\nT\tF\t0\t14000\nT\tF\t0\t15000\nT\tF\t0\t16000\nT\tF\t0\t17000\nT\tF\t0\t18000\nT\tF\t0\t19000\nT\tF\t0\t1a000\nT\tF\t0\t1b000\nT\tF\t0\t1c000\nT\tF\t0\t1d000\nT\tF\t0\t1e000\nT\tF\t0\t1f000\nT\tF\t0\t20000\nT\tF\t0\t21000\nT\tF\t0\t22000\nT\tF\t0\t23000\nT\tF\t0\t24000\nT\tF\t0\t25000\nT\tF\t0\t26000\nT\tF\t0\t27000\nT\tF\t0\t0\nT\tF\t0\t27000\nT\tF\t0\t8000\nT\tF\t0\t7000\n",
+            "49\tR\t45000\t2\n50\tR\t45000\t2\n51\tR\t45000\t2\n52\tR\t45000\t2\n53\tR\t45000\t2\n54\tR\t45000\t2\n55\tR\t45000\t2\n56\tR\t45000\t2\n57\tR\t45000\t2\n58\tR\t45000\t2\n59\tR\t45000\t2\n60\tR\t45000\t2\n61\tR\t45000\t2\n62\tR\t45000\t2\n63\tR\t45000\t2\n64\tR\t45000\t2\n65\tR\t45000\t2\n66\tR\t45000\t2\n67\tR\t45000\t2\n68\tR\t45000\t2\n69\tR\t45000\t2\n70\tR\t45000\t2\n71\tR\t45000\t2\n72\tR\t45000\t2\n73\tR\t45000\t2\n74\tR\t45000\t2\n75\tR\t45000\t2\n76\tR\t45000\t2\n77\tR\t45000\t2\n78\tR\t45000\t2\n79\tR\t45000\t2\n80\tR\t45000\t2\n81\tR\t45000\t2\n82\tR\t45000\t2\n83\tR\t45000\t2\n84\tR\t45000\t2\n85\tR\t45000\t2\n86\tR\t45000\t2\n87\tR\t45000\t2\n88\tR\t45000\t2\n89\tR\t45000\t0\n90\tR\t45000\t0\n91\tR\t45000\t0\n92\tR\t45000\t0\n",
+        ),
+        // seventy pages: the direct rows are displaced too
+        (
+            "RUN\t1\nD\t10000\t20000\nD\t20000\t45000\nD\t20008\t45000\nD\t20010\t45000\nD\t20018\t45000\nD\t20020\t45000\nD\t20028\t45000\nD\t20030\t45000\nD\t20038\t45000\nD\t20040\t45000\nD\t20048\t45000\nD\t20050\t45000\nD\t20058\t45000\nD\t20060\t45000\nD\t20068\t45000\nD\t20070\t45000\nD\t20078\t45000\nD\t20080\t45000\nD\t20088\t45000\nD\t20090\t45000\nD\t20098\t45000\nD\t200a0\t45000\nD\t200a8\t45000\nD\t200b0\t45000\nD\t200b8\t45000\nD\t200c0\t45000\nD\t200c8\t45000\nD\t200d0\t45000\nD\t200d8\t45000\nD\t200e0\t45000\nD\t200e8\t45000\nD\t200f0\t45000\nD\t200f8\t45000\nD\t20100\t45000\nD\t20108\t45000\nD\t20110\t45000\nD\t20118\t45000\nD\t20120\t45000\nD\t20128\t45000\nD\t20130\t45000\nD\t20138\t45000\nD\t20140\t45000\nD\t20148\t45000\nD\t20150\t45000\nD\t20158\t45000\nD\t20160\t45000\nD\t20168\t45000\nD\t20170\t45000\nD\t20178\t45000\nD\t20180\t45000\nD\t20188\t45000\nD\t20190\t45000\nD\t20198\t45000\nD\t201a0\t45000\nD\t201a8\t45000\nD\t201b0\t45000\nD\t201b8\t45000\nD\t201c0\t45000\nD\t201c8\t45000\nD\t201d0\t45000\nD\t201d8\t45000\nD\t201e0\t45000\nD\t201e8\t45000\nD\t201f0\t45000\nD\t201f8\t45000\nD\t20200\t45000\nD\t20208\t45000\nD\t20210\t45000\nD\t20218\t45000\nD\t20220\t45000\nD\t20228\t45000\nD\t45000\t0\nK\t10\t0\nK\t20\t0\nK\t45\t0\nC\t1\t10000\nM\t1\t2\t0\nT\tF\t0\t0\nT\tF\t0\t1000\nT\tF\t0\t2000\nT\tF\t0\t3000\nT\tF\t0\t4000\nT\tF\t0\t5000\nT\tF\t0\t6000\nT\tF\t0\t7000\nT\tF\t0\t8000\nT\tF\t0\t9000\nT\tF\t0\ta000\nT\tF\t0\tb000\nT\tF\t0\tc000\nT\tF\t0\td000\nT\tF\t0\te000\nT\tF\t0\tf000\nT\tF\t0\t10000\nT\tF\t0\t11000\nT\tF\t0\t12000\nT\tF\t0\t13000\nT\tF\t0\t14000\nT\tF\t0\t15000\nT\tF\t0\t16000\nT\tF\t0\t17000\nT\tF\t0\t18000\nT\tF\t0\t19000\nT\tF\t0\t1a000\nT\tF\t0\t1b000\nT\tF\t0\t1c000\nT\tF\t0\t1d000\nT\tF\t0\t1e000\nT\tF\t0\t1f000\nT\tF\t0\t20000\nT\tF\t0\t21000\nT\tF\t0\t22000\nT\tF\t0\t23000\nT\tF\t0\t24000\nT\tF\t0\t25000\nT\tF\t0\t26000\nT\tF\t0\t27000\nT\tF\t0\t28000\nT\tF\t0\t29000\nT\tF\t0\t2a000\nT\tF\t0\t2b000\nT\tF\t0\t2c000\nT\tF\t0\t2d000\nT\tF\t0\t2e000\nT\tF\t0\t2f000\nT\tF\t0\t30000\nT\tF\t0\t31000\nT\tF\t0\t32000\nT\tF\t0\t33000\nT\tF\t0\t34000\nT\tF\t0\t35000\nT\tF\t0\t36000\nT\tF\t0\t37000\nT\tF\t0\t38000\nT\tF\t0\t39000\nT\tF\t0\t3a000\nT\tF\t0\t3b000\nT\tF\t0\t3c000\nT\tF\t0\t3d000\nT\tF\t0\t3e000\nT\tF\t0\t3f000\nT\tF\t0\t40000\nT\tF\t0\t41000\nT\tF\t0\t42000\nT\tF\t0\t43000\nT\tF\t0\t44000\nT\tF\t0\t45000\nT\tF\t0\t0\nT\tF\t0\t45000\nT\tF\t0\t5000\nT\tF\t0\t6000\nT\tF\t0\t25000\nT\tF\t0\t26000\nT\tF\t0\t40000\n",
+            "79\tR\t45000\t2\n80\tR\t45000\t2\n81\tR\t45000\t2\n82\tR\t45000\t2\n83\tR\t45000\t2\n84\tR\t45000\t2\n85\tR\t45000\t2\n86\tR\t45000\t2\n87\tR\t45000\t2\n88\tR\t45000\t2\n89\tR\t45000\t2\n90\tR\t45000\t2\n91\tR\t45000\t2\n92\tR\t45000\t2\n93\tR\t45000\t2\n94\tR\t45000\t2\n95\tR\t45000\t2\n96\tR\t45000\t2\n97\tR\t45000\t2\n98\tR\t45000\t2\n99\tR\t45000\t2\n100\tR\t45000\t2\n101\tR\t45000\t2\n102\tR\t45000\t2\n103\tR\t45000\t2\n104\tR\t45000\t2\n105\tR\t45000\t2\n106\tR\t45000\t2\n107\tR\t45000\t2\n108\tR\t45000\t2\n109\tR\t45000\t2\n110\tR\t45000\t2\n111\tR\t45000\t2\n112\tR\t45000\t2\n113\tR\t45000\t2\n114\tR\t45000\t2\n115\tR\t45000\t2\n116\tR\t45000\t2\n117\tR\t45000\t2\n118\tR\t45000\t2\n119\tR\t45000\t2\n120\tR\t45000\t2\n121\tR\t45000\t2\n122\tR\t45000\t2\n123\tR\t45000\t2\n124\tR\t45000\t2\n125\tR\t45000\t2\n126\tR\t45000\t2\n127\tR\t45000\t2\n128\tR\t45000\t2\n129\tR\t45000\t2\n130\tR\t45000\t2\n131\tR\t45000\t2\n132\tR\t45000\t2\n133\tR\t45000\t2\n134\tR\t45000\t2\n135\tR\t45000\t2\n136\tR\t45000\t2\n137\tR\t45000\t2\n138\tR\t45000\t2\n139\tR\t45000\t2\n140\tR\t45000\t2\n141\tR\t45000\t2\n142\tR\t45000\t2\n143\tR\t45000\t2\n144\tR\t45000\t2\n145\tR\t45000\t2\n146\tR\t45000\t2\n147\tR\t45000\t2\n148\tR\t45000\t2\n149\tR\t45000\t2\n150\tR\t45000\t0\n151\tR\t45000\t2\n152\tR\t45000\t0\n153\tR\t45000\t0\n154\tR\t45000\t0\n155\tR\t45000\t0\n",
+        ),
+        // two keys on one direct row; the lower lookaside fills it again
+        (
+            "RUN\t1\nD\t10000\t20000\nD\t20000\t45000\nD\t20008\t45000\nD\t20010\t45000\nD\t20018\t45000\nD\t20020\t45000\nD\t20028\t45000\nD\t20030\t45000\nD\t20038\t45000\nD\t20040\t45000\nD\t20048\t45000\nD\t20050\t45000\nD\t20058\t45000\nD\t20060\t45000\nD\t20068\t45000\nD\t20070\t45000\nD\t20078\t45000\nD\t20080\t45000\nD\t20088\t45000\nD\t20090\t45000\nD\t20098\t45000\nD\t200a0\t45000\nD\t200a8\t45000\nD\t200b0\t45000\nD\t200b8\t45000\nD\t200c0\t45000\nD\t200c8\t45000\nD\t200d0\t45000\nD\t200d8\t45000\nD\t200e0\t45000\nD\t200e8\t45000\nD\t200f0\t45000\nD\t200f8\t45000\nD\t20100\t45000\nD\t20108\t45000\nD\t20110\t45000\nD\t20118\t45000\nD\t20120\t45000\nD\t20128\t45000\nD\t20130\t45000\nD\t20138\t45000\nD\t20140\t45000\nD\t20148\t45000\nD\t20150\t45000\nD\t20158\t45000\nD\t20160\t45000\nD\t20168\t45000\nD\t20170\t45000\nD\t20178\t45000\nD\t20180\t45000\nD\t20188\t45000\nD\t20190\t45000\nD\t20198\t45000\nD\t201a0\t45000\nD\t201a8\t45000\nD\t201b0\t45000\nD\t201b8\t45000\nD\t201c0\t45000\nD\t201c8\t45000\nD\t201d0\t45000\nD\t201d8\t45000\nD\t201e0\t45000\nD\t201e8\t45000\nD\t201f0\t45000\nD\t201f8\t45000\nD\t20200\t45000\nD\t45000\t0\nK\t10\t0\nK\t20\t0\nK\t45\t0\nC\t1\t10000\nM\t1\t2\t0\nT\tF\t0\t0\nT\tF\t0\t40000\nW\t20000\t46000\nW\t20200\t46000\nT\tF\t0\t0\nT\tF\t0\t40000\nT\tF\t0\t0\n",
+            "74\tR\t45000\t2\n75\tR\t45000\t2\n76\tW\n77\tW\n78\tR\t45000\t0\n79\tR\t45000\t0\n80\tR\t45000\t0\n",
+        ),
+        // an access-register answer is held while the page is walked, and each purge leaves the other source
+        (
+            "RUN\t1\nD\t1010\t200000000000\nD\t2020\t0\nD\t2028\t4000\nD\t4000\t0\nD\t4008\t10000\nD\t4010\t0\nD\t10000\t20000\nD\t20000\t45000\nD\t45000\t0\nK\t1\t0\nK\t2\t0\nK\t4\t0\nK\t10\t0\nK\t20\t0\nK\t45\t0\nC\t2\t1000\nA\t1\t2\nM\t2\t2\t0\nT\tF\t1\t0\nZ\tT\nT\tF\t1\t0\nZ\tA\nT\tF\t1\t0\nT\tF\t1\t0\nW\t4008\t0\nT\tF\t1\t0\nX\t0\nT\tF\t1\t0\n",
+            "20\tE\t5\taddressing\t4\n21\tZ\n22\tE\t5\taddressing\t4\n23\tZ\n24\tE\t5\taddressing\t4\n25\tE\t5\taddressing\t4\n26\tW\n27\tE\t5\taddressing\t4\n29\tE\t5\taddressing\t4\n",
+        ),
+        // a store that a protection refuses keeps the rows of its finished lookups
+        (
+            "RUN\t1\nD\t10000\t20000\nD\t20000\t45200\nD\t45000\t0\nK\t10\t0\nK\t20\t0\nK\t45\t0\nC\t1\t10000\nM\t1\t2\t0\nT\tS\t0\t0\nT\tF\t0\t0\nT\tS\t0\t0\n",
+            "10\tE\t4P\tpage\t2\n11\tR\t45000\t0\n12\tE\t4P\tpage\t0\n",
+        ),
+        // an exception is not held
+        (
+            "RUN\t1\nD\t10000\t20000\nD\t20000\t45400\nD\t45000\t0\nK\t10\t0\nK\t20\t0\nK\t45\t0\nC\t1\t10000\nM\t1\t2\t0\nT\tF\t0\t0\nW\t20000\t45000\nT\tF\t0\t0\nT\tF\t0\t0\n",
+            "10\tE\t11\tpage-translation\t2\n11\tW\n12\tR\t45000\t2\n13\tR\t45000\t0\n",
+        ),
+        // a real-space answer is held as any other
+        (
+            "RUN\t1\nD\t5000\t0\nK\t5\t0\nC\t1\t20\nM\t1\t2\t0\nT\tF\t0\t5000\nT\tF\t0\t5000\nC\t1\t0\nT\tF\t0\t5000\n",
+            "6\tR\t5000\t0\n7\tR\t5000\t0\n9\tE\t5\taddressing\t1\n",
+        ),
+        // a purge forgets a frame that a store has changed, a load does not
+        (
+            "RUN\t1\nD\t10000\t20000\nD\t20000\t45000\nD\t45000\t0\nD\t46000\t0\nK\t10\t0\nK\t20\t0\nK\t45\t0\nK\t46\t0\nC\t1\t10000\nM\t1\t2\t0\nT\tF\t0\t0\nW\t20000\t46000\nT\tF\t0\t0\nC\t1\t10000\nT\tF\t0\t0\nZ\tA\nT\tF\t0\t0\nZ\tT\nT\tF\t0\t0\n",
+            "12\tR\t45000\t2\n13\tW\n14\tR\t45000\t0\n16\tR\t45000\t0\n17\tZ\n18\tR\t45000\t0\n19\tZ\n20\tR\t46000\t2\n",
+        ),
+        // a refused prefix purges nothing, a lawful one both sources
+        (
+            "RUN\t1\nD\t10000\t20000\nD\t20000\t45000\nD\t45000\t0\nD\t46000\t0\nK\t10\t0\nK\t20\t0\nK\t45\t0\nK\t46\t0\nC\t1\t10000\nM\t1\t2\t0\nT\tF\t0\t0\nW\t20000\t46000\nX\t1000\nT\tF\t0\t0\nX\t0\nT\tF\t0\t0\n",
+            "12\tR\t45000\t2\n13\tW\n14\tE\t202\tbad-prefix\t0\n15\tR\t45000\t0\n17\tR\t46000\t2\n",
+        ),
+    ];
+
+    fn lists_as_written(rt: &LibcRuntime, cases: &[Case]) -> Result<(), Fail> {
+        for case in cases.iter() {
             let text = case.0;
             let listing = listing::list(rt.alloc(), text.as_bytes())?;
             check_eq(listing.as_str(), case.1).note(text)?;
         }
         Ok(())
+    }
+
+    // The header, and one line over and over.
+    fn repeated(heap: Global, line: &str, n: usize) -> Result<String, AllocError> {
+        let mut text = String::from_str(heap, "RUN\t1\n")?;
+        for _ in 0..n {
+            text.push_str(line)?;
+        }
+        Ok(text)
+    }
+
+    #[test]
+    fn texts_at_their_limits(rt: LibcRuntime) -> Result<(), Fail> {
+        let cases = [
+            ("D\t0\t0\n", 1024, ""),
+            ("D\t0\t0\n", 1025, "1026\tE\t206\ttoo-much\t0\n"),
+            ("K\t0\t0\n", 256, ""),
+            ("K\t0\t0\n", 257, "258\tE\t206\ttoo-much\t0\n"),
+            ("X\t0\n", 16382, ""),
+            ("X\t0\n", 16383, "1\tE\t206\ttoo-much\t0\n"),
+        ];
+        for case in cases.iter() {
+            let text = repeated(rt.alloc(), case.0, case.1)?;
+            let listing = listing::list(rt.alloc(), text.as_bytes())?;
+            check_eq(listing.as_str(), case.2).note(case.0)?;
+        }
+        Ok(())
+    }
+
+    #[test]
+    fn texts_list_as_written(rt: LibcRuntime) -> Result<(), Fail> {
+        lists_as_written(&rt, &CASES)
+    }
+
+    #[test]
+    fn held_answers_list_as_written(rt: LibcRuntime) -> Result<(), Fail> {
+        lists_as_written(&rt, &HELD)
     }
 }

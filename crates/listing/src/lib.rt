@@ -64,8 +64,7 @@ fn listed(out: &mut String, line: usize, outcome: Outcome) -> fmt::Result {
 // What each source of a listing is: a direct-mapped lookaside over a round-robin one over the walk.
 type Stack = DirectMapped<RoundRobin<TableWalk>>;
 
-fn stack() -> Stack
-{
+fn stack() -> Stack {
     DirectMapped {
         table: DirectMappedTable::new(),
         beneath: RoundRobin {

@@ -20,8 +20,7 @@ from-beneath None fresh holds a held e = inr (sym e)
 from-beneath (Some b) fresh holds a held e = inl (subst holds (sym (ok-same e)) (held b refl))
 
 module _ {Key Answer : Type 0} (fits : Key → Type 0) (fresh : Key → Seen Answer) (spelt : Key → Words) (written : Answer → Words) (meant : Words → Answer)
-  (kept-before kept-after : Words → Words → Type 0) (held-before held-after : Key → Answer → Type 0) (shows : Key → Option Answer) (key : Key) (answer : Answer) where
-
+    (kept-before kept-after : Words → Words → Type 0) (held-before held-after : Key → Answer → Type 0) (shows : Key → Option Answer) (key : Key) (answer : Answer) where
   pub noted-kept :
       ((k a : Words) → kept-after k a → kept-before k a ⊎ ((k ≡ spelt key) × (a ≡ written answer)))
       → Kept fits fresh held-before held-after
@@ -40,6 +39,7 @@ module _ {Key Answer : Type 0} (fits : Key → Type 0) (fresh : Key → Seen Ans
       new : k ≡ key → a ≡ answer → held-before key answer ⊎ (fresh key .result ≡ Ok answer) → (In-table meant (kept-before (spelt k)) a ⊎ held-before k a) ⊎ (fresh k .result ≡ Ok a)
       new same-key same (inl h) = inl (inr (subst₂ held-before (sym same-key) (sym same) h))
       new same-key same (inr f) = inr (ap (λ j. fresh j .result) same-key ∙ f ∙ ap Ok (sym same))
+
       by : kept-before (spelt k) w ⊎ ((spelt k ≡ spelt key) × (w ≡ written answer)) → (In-table meant (kept-before (spelt k)) a ⊎ held-before k a) ⊎ (fresh k .result ≡ Ok a)
       by (inl h) = inl (inl (w, (h, means)))
       by (inr e) = new (distinct k fit (e .0)) (sym means ∙ ap meant (e .1) ∙ back) (from-beneath (shows key) (fresh key) (held-before key) answer shown gave)

@@ -27,7 +27,9 @@ impl DirectMappedTable {
     pub fn new() -> Self
         ensures { λ r. ⌜ r .rows ≡ replicate 64 empty-row ⌝ }
     {
-        DirectMappedTable { rows: [Row::empty(); 64] }
+        DirectMappedTable {
+            rows: [Row::empty(); 64],
+        }
     }
 }
 
@@ -44,7 +46,11 @@ pub impl Table for DirectMappedTable as DirectMappedRows {
 
     fn find(&self, key: Words) -> Option<Words> {
         let row = self.rows[row_of(key)];
-        if row.holds(key) { Some(row.answer) } else { None }
+        if row.holds(key) {
+            Some(row.answer)
+        } else {
+            None
+        }
     }
 
     fn note(&mut self, key: Words, answer: Words) {

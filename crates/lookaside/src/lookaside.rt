@@ -26,7 +26,13 @@ pub impl<K: Kind, T: Table, B: Source<K>> Source<K> for Lookaside<T, B> as Looka
 
     ghost shown = { λ s k a e. told-held (K·Kind .meant) (T·Table .finds (s .table) (K·Kind .spelt k)) (B·Source .shows (s .beneath) k) (T·Table .keeps (s .table) (K·Kind .spelt k)) (B·Source .holds (s .beneath) k) (λ w f. T·Table .found (s .table) (K·Kind .spelt k) w f) (λ b f. B·Source .shown (s .beneath) k b f) a e };
 
-    fn ask<S: Storage>(&mut self, storage: &S, key: K::Key, list: &mut [u64], used: &mut usize) -> Result<K::Answer, Condition> {
+    fn ask<S: Storage>(
+        &mut self,
+        storage: &S,
+        key: K::Key,
+        list: &mut [u64],
+        used: &mut usize,
+    ) -> Result<K::Answer, Condition> {
         let words = K::spell(key);
         if let Some(answer) = self.table.find(words) {
             return Ok(K::mean(answer));

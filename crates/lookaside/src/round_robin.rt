@@ -24,7 +24,10 @@ impl RoundRobinTable {
         ensures rows { λ r. ⌜ r .rows ≡ replicate 32 empty-row ⌝ }
         ensures next { λ r. ⌜ r .next ≡ 0 ⌝ }
     {
-        RoundRobinTable { rows: [Row::empty(); 32], next: 0 }
+        RoundRobinTable {
+            rows: [Row::empty(); 32],
+            next: 0,
+        }
     }
 }
 

@@ -24,7 +24,7 @@ returns g c =
     let below = c .in-Continue-answer .ensures tt in
     let gave = below .gives .result in
     let notes : (k a : Words) → g .T·Table .keeps table k a → g .T·Table .keeps (s .table) k a ⊎ ((k ≡ kind .spelt key) × (a ≡ kind .written answer)) =
-        subst₂ (λ x y. (k a : Words) → g .T·Table .keeps table k a → g .T·Table .keeps (s .table) k a ⊎ ((k ≡ x) × (a ≡ y))) words (c .write .ensures) (c .note .ensures .keeps) in
+    subst₂ (λ x y. (k a : Words) → g .T·Table .keeps table k a → g .T·Table .keeps (s .table) k a ⊎ ((k ≡ x) × (a ≡ y))) words (c .write .ensures) (c .note .ensures .keeps) in
     let noted = subst₂ (λ x y. g .T·Table .noted (s .table) x y table) words (c .write .ensures) (c .note .ensures .rows) in
     record {
       gives = subst (λ o. Stepped (kind .most) (asked (told (kind .meant) o (source .shows (s .beneath) key)) (fresh key)) (c .args .list .now) (c .args .used .now) (c .ask .last .list) (c .ask .last .used) (Ok answer)) (sym none) (below .gives);
