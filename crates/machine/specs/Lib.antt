@@ -1,4 +1,5 @@
 pub mod Calls
+pub mod Law
 pub mod Orders
 pub mod Registers
 pub mod Runs
