@@ -1,4 +1,6 @@
+pub mod Far
 pub mod InOrder
+pub mod Lawful
 pub mod Results
 pub mod Sound
 pub mod Steps

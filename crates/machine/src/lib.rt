@@ -4,6 +4,7 @@ mod machine;
 mod perform;
 mod reach;
 mod registers;
+mod running;
 mod space;
 mod state;
 
@@ -11,3 +12,4 @@ pub use machine::Counted;
 pub use perform::Outcome;
 pub use registers::Control;
 pub use registers::Machine;
+pub use running::run;
