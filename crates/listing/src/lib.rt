@@ -15,7 +15,6 @@ use lookup::kinds::PagingKind;
 use lookup::source::TableWalk;
 use lookup::source::TableWalkSource;
 use machine::Counted;
-use machine::Machine;
 use machine::Outcome;
 use runtext::Counts;
 use std::alloc::AllocError;
@@ -74,21 +73,23 @@ fn stack() -> Stack {
     }
 }
 
-// Makes the calls of a run, the first of which stands on `line`.
-fn run(
-    out: &mut String,
-    line: usize,
+// Makes the calls of a run over its storage, and keeps the record of what came of each.
+fn record(
     words: &mut [Word],
     keys: &[BlockKey],
     calls: &[Call],
-) -> fmt::Result {
+    outcomes: &mut [Outcome],
+) -> Result<(), Condition> {
     let mut storage = Prefixed::new(Sparse { words, keys });
     let mut arts = stack();
     let mut pages = stack();
-    let mut machine = Machine::new(&mut arts, &mut pages);
-    for (i, call) in calls.iter().enumerate() {
-        let outcome = machine.perform(&mut storage, &mut arts, &mut pages, *call);
-        listed(out, line.saturating_add(i), outcome)?;
+    machine::run(&mut storage, &mut arts, &mut pages, calls, outcomes)
+}
+
+// A line for each call that says something, the first of which stands on `line`.
+fn printed(out: &mut String, line: usize, outcomes: &[Outcome]) -> fmt::Result {
+    for (i, outcome) in outcomes.iter().enumerate() {
+        listed(out, line.saturating_add(i), *outcome)?;
     }
     Ok(())
 }
@@ -117,8 +118,12 @@ pub fn list(heap: Global, text: &[u8]) -> Result<String, AllocError> {
                 keys: k,
                 calls: c,
             } = n;
+            let mut outcomes = vec![in heap; Outcome::Purged; c]?;
             let line = w.saturating_add(k).saturating_add(2);
-            stored(run(&mut out, line, &mut words[0..w], &keys[0..k], &calls[0..c]))?;
+            match record(&mut words[0..w], &keys[0..k], &calls[0..c], &mut outcomes) {
+                Ok(()) => stored(printed(&mut out, line, &outcomes))?,
+                Err(condition) => stored(refused(&mut out, 1, condition, 0))?,
+            }
         }
         Err(refusal) => stored(refused(&mut out, refusal.line, refusal.condition, 0))?,
     }

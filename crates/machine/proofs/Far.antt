@@ -82,8 +82,8 @@ bounded-after r small (call.Purge source) = small
 
 -- what one call did
 pub record Performed (r : Registers) (w : View) (c : Call) (o : Outcome) (r′ : Registers) (w′ : View)
-  (arts : AccessKey → Option AccessAnswer) (pages : PageKey → Option PageAnswer)
-  (arts-before arts-after : AccessKey → AccessAnswer → Type 0) (pages-before pages-after : PageKey → PageAnswer → Type 0) : Type 0 where
+    (arts : AccessKey → Option AccessAnswer) (pages : PageKey → Option PageAnswer)
+    (arts-before arts-after : AccessKey → AccessAnswer → Type 0) (pages-before pages-after : PageKey → PageAnswer → Type 0) : Type 0 where
   pub came : o ≡ outcome-of r (access-asks arts (real-view r w .word)) (page-asks pages (real-view r w .word)) w c
   pub registers : r′ ≡ registers-after r c
   pub view : w′ ≡ view-after r w c
@@ -91,7 +91,7 @@ pub record Performed (r : Registers) (w : View) (c : Call) (o : Outcome) (r′ :
   pub pages-held : When (purges-pages c) (Empty pages-after) (Kept page-fits (page-fresh (real-view r w .word)) pages-before pages-after)
 
 pub record Far (v : View) (calls : List Call) (first : List Outcome) (i : ℕ) (outcomes : List Outcome) (r : Registers) (w : View)
-  (arts : AccessKey → AccessAnswer → Type 0) (pages : PageKey → PageAnswer → Type 0) : Type 0 where
+    (arts : AccessKey → AccessAnswer → Type 0) (pages : PageKey → PageAnswer → Type 0) : Type 0 where
   pub law : Lawful (start v) (take i calls) (take i outcomes)
   pub registers : r ≡ after (start v) (take i calls) .registers
   pub view : w ≡ after (start v) (take i calls) .view

@@ -68,7 +68,7 @@ module _ (r : Registers) (one two : AccessKey → Seen AccessAnswer) (first seco
       let a = cut (r .size) address in
       let late = λ (asks : PageKey → Seen PageAnswer) (space : Option AccessAnswer). then (unless LowAddress (low-protected r access a)) (λ _. then (real-of asks access space a) (λ real. reached r view access real)) in
       let both : reach r one first view access register a .result ≡ reach r two second view access register a .result =
-          then-same (space-by-mode (r .mode) r one register) (space-by-mode (r .mode) r two register) (late first) (late second) (space-same r one two (r .mode) register arts)
-          (λ space found. late-same a space (low-protected r access a) (λ k asks. pages k (ap (page-asked r access a) found ∙ asks))) in
+      then-same (space-by-mode (r .mode) r one register) (space-by-mode (r .mode) r two register) (late first) (late second) (space-same r one two (r .mode) register arts)
+      (λ space found. late-same a space (low-protected r access a) (λ k asks. pages k (ap (page-asked r access a) found ∙ asks))) in
       then-same (unless BadNumber (ltb 15 register)) (unless BadNumber (ltb 15 register)) _ _ refl
       (λ _ _. then-same (unless ShortList (ltb places 12)) (unless ShortList (ltb places 12)) (λ _. reach r one first view access register a) (λ _. reach r two second view access register a) refl (λ _ _. both))

@@ -89,7 +89,7 @@ abbrev pub Fresh-now : State → (AccessKey → Option AccessAnswer) → (PageKe
 Fresh-now s arts pages (call.Translate access register address) =
     Unchanged s access register address
     → run-translation (s .registers) (access-asks arts (seen-now s)) (page-asks pages (seen-now s)) (s .view) access register address .result
-      ≡ run-translation (s .registers) (access-fresh (seen-now s)) (page-fresh (seen-now s)) (s .view) access register address .result
+    ≡ run-translation (s .registers) (access-fresh (seen-now s)) (page-fresh (seen-now s)) (s .view) access register address .result
 Fresh-now s arts pages (call.LoadControl n x) = Unit {0}
 Fresh-now s arts pages (call.LoadAccess n x) = Unit {0}
 Fresh-now s arts pages (call.LoadMode mode size key) = Unit {0}
