@@ -1,3 +1,4 @@
+pub mod Alike
 pub mod Far
 pub mod InOrder
 pub mod Lawful
