@@ -46,3 +46,7 @@ pub record Alike (r : Registers) (m n : Seen-by) (access : Access) (register add
 -- they give the same address or number, and the same list
 abbrev pub Answers-alike : Registers → Seen-by → Seen-by → Access → ℕ → ℕ → ℕ → Type 0
 Answers-alike r m n access register address places = translated r n access register address places ≡ translated r m access register address places
+
+-- of any two machines, for any translation
+abbrev pub Nothing-else-matters : Type 0
+Nothing-else-matters = (r : Registers) (m n : Seen-by) (access : Access) (register address places : ℕ) → Alike r m n access register address places → Answers-alike r m n access register address places

@@ -7,6 +7,7 @@ ghost use Rattle.lookup.specs.Access.{access-fits};
 ghost use Rattle.lookup.specs.Lookups.{access-fresh, page-fresh, access-asks, page-asks};
 ghost use Rattle.lookup.specs.Sources.{Kept, Moved, Silent};
 ghost use Rattle.lookup.specs.Spelling.{page-fits};
+ghost use Rattle.machine.specs.Alike.{Seen-by, Alike, Answers-alike};
 ghost use Rattle.machine.specs.Calls.{Counts, refuses-translation};
 ghost use Rattle.machine.specs.Orders.{translation-rows, real-found};
 ghost use Rattle.machine.specs.Registers.{registers};
@@ -52,6 +53,7 @@ impl Machine {
         ensures arts_moved { λ _. ⌜ Moved (cond (refuses-translation register (length (now (list .entry)))) None (mode-asks (now (self .entry) .mode) (registers (now (self .entry))) register)) (A·Source .moves (now (arts .entry)) (access-fresh (prefixed (now (self .entry) .prefix) (S·Storage .view (now (storage .entry) .beneath)) .word))) (now (arts .entry)) (now (arts .exit)) ⌝ }
         ensures pages_moved { λ _. ⌜ Moved (cond (refuses-translation register (length (now (list .entry)))) None (page-asked (registers (now (self .entry))) access (cut (now (self .entry) .size) address) (space-by-mode (now (self .entry) .mode) (registers (now (self .entry))) (access-asks (A·Source .shows (now (arts .entry))) (prefixed (now (self .entry) .prefix) (S·Storage .view (now (storage .entry) .beneath)) .word)) register .result))) (P·Source .moves (now (pages .entry)) (page-fresh (prefixed (now (self .entry) .prefix) (S·Storage .view (now (storage .entry) .beneath)) .word))) (now (pages .entry)) (now (pages .exit)) ⌝ }
         ensures refused { λ _. ⌜ (refuses-translation register (length (now (list .entry))) ≡ true → now (storage .exit) ≡ now (storage .entry)) ⌝ }
+        ensures alike { λ _. ⌜ ((n : Seen-by) → Alike (registers (now (self .entry))) (record { arts = A·Source .shows (now (arts .entry)); pages = P·Source .shows (now (pages .entry)); view = prefixed (now (self .entry) .prefix) (S·Storage .view (now (storage .entry) .beneath)) }) n access register address (length (now (list .entry))) → Answers-alike (registers (now (self .entry))) (record { arts = A·Source .shows (now (arts .entry)); pages = P·Source .shows (now (pages .entry)); view = prefixed (now (self .entry) .prefix) (S·Storage .view (now (storage .entry) .beneath)) }) n access register address (length (now (list .entry)))) ⌝ }
         ensures order { λ r. ⌜ (Silent (A·Source .shows (now (arts .entry))) → Silent (P·Source .shows (now (pages .entry))) → Ordered (translation-rows (registers (now (self .entry))) (prefixed (now (self .entry) .prefix) (S·Storage .view (now (storage .entry) .beneath))) access register address (length (now (list .entry)))) (real-found (registers (now (self .entry))) (prefixed (now (self .entry) .prefix) (S·Storage .view (now (storage .entry) .beneath))) access register address (length (now (list .entry)))) (r .result)) ⌝ }
     {
         if register > 15 {

@@ -3,6 +3,7 @@ ghost use Prim.Native.Nat.{_<_, _≤_};
 ghost use lib.ListN.{length, take, drop};
 ghost use mathlib.Core.Path.{_≡_};
 ghost use Rattle.arch.specs.declared.condition.Condition.the-variants.{ShortList};
+ghost use Rattle.machine.specs.Alike.{Nothing-else-matters};
 ghost use Rattle.machine.specs.Law.{start, Lawful, after};
 ghost use Rattle.std.specs.Results.{Cases};
 use crate::perform::Outcome;
@@ -26,6 +27,7 @@ pub fn run<S: Storage, A: Source<AccessRegister>, P: Source<Paging>>(
     outcomes: &mut [Outcome],
 ) -> Result<(), Condition>
     ensures law { λ r. ⌜ Cases r (λ _. Lawful (start (S·Storage .view (now (storage .entry) .beneath))) (now (calls .entry)) (take (length (now (calls .entry))) (now (outcomes .exit)))) (λ e. (e ≡ ShortList) × (length (now (outcomes .entry)) < length (now (calls .entry)))) ⌝ }
+    ensures alike { λ _. ⌜ Nothing-else-matters ⌝ }
     ensures storage { λ r. ⌜ Cases r (λ _. S·Storage .view (now (storage .exit) .beneath) ≡ after (start (S·Storage .view (now (storage .entry) .beneath))) (now (calls .entry)) .view) (λ _. now (storage .exit) ≡ now (storage .entry)) ⌝ }
     ensures sources { λ r. ⌜ Cases r (λ _. Unit {0}) (λ _. (now (arts .exit) ≡ now (arts .entry)) × (now (pages .exit) ≡ now (pages .entry))) ⌝ }
     ensures outcomes { λ r. ⌜ Cases r (λ _. drop (length (now (calls .entry))) (now (outcomes .exit)) ≡ drop (length (now (calls .entry))) (now (outcomes .entry))) (λ _. now (outcomes .exit) ≡ now (outcomes .entry)) ⌝ }

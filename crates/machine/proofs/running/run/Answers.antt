@@ -1,8 +1,9 @@
 use native.Mathlib.Omega.{arith}
 use Prim.Native.Nat.{_<_}
-use mathlib.Core.Path.{_≡_}
+use mathlib.Core.Path.{_≡_, refl}
 use lib.ListN.{length}
 use Rattle.machine.specs.Registers.{registers}
+use Rattle.machine.proofs.Alike.{answers-alike}
 use Rattle.machine.proofs.Far.{far-begins, far-more, far-ends}
 use Rattle.machine.proofs.running.run.Needs as need
 
@@ -22,4 +23,7 @@ pub returns : need.returns
 returns g c =
     let whole : c .loop-i .i ≡ length (c .args .calls .now) = omega arith in
     let end = far-ends (g .S·Storage .view (c .args .storage .now .beneath)) (c .args .calls .now) (c .args .outcomes .now) (c .loop-i .i) whole (c .loop-i .inv) in
-    record { law = end .0; storage = end .1 .0; sources = tt; outcomes = end .1 .1 }
+    record { law = end .0; alike = answers-alike; storage = end .1 .0; sources = tt; outcomes = end .1 .1 }
+
+pub returns-then-outcomes-calls : need.returns-then-outcomes-calls
+returns-then-outcomes-calls g c = record { law = (refl, c .if-outcomes-calls .taken); alike = answers-alike; storage = refl; sources = (refl, refl); outcomes = refl }

@@ -1,4 +1,5 @@
 use mathlib.Core.Path.{_≡_, refl, sym, ap, ap₂, subst, _∙_}
+use borrow.Author.Needs.{needs}
 use borrow.Author.Tests.{le-ltb, clash}
 use Prim.Native.Nat.{ℕ}
 use mathlib.Core.Bool.{Bool, false, cond, _||_}
@@ -14,6 +15,7 @@ use Rattle.lookup.specs.Spelling.{page-fits}
 use Rattle.machine.specs.Registers.{registers}
 use Rattle.machine.specs.Calls.{refuses-translation}
 use Rattle.machine.specs.Translation.{reach, translation, cut as cutting, mode-asks, page-asked, space-by-mode}
+use Rattle.machine.proofs.Alike.{answers-alike}
 use Rattle.machine.proofs.InOrder.{silent-asks, translation-ordered}
 use Rattle.machine.proofs.Whole.{prefix-set, not-refused, counted}
 use Rattle.machine.proofs.registers.Machine.translate.Needs as need
@@ -46,8 +48,15 @@ returns g c =
       arts-moved = subst (λ b. Moved (cond b None (mode-asks (m .mode) (registers m) (c .args .register))) moves-a (c .args .arts .now) (c .reach-result .last .arts)) (sym refuses) moved-a;
       pages-moved = subst (λ b. Moved (cond b None (page-key-at (cutting (m .size) (c .args .address)))) moves-p (c .args .pages .now) (c .reach-result .last .pages)) (sym refuses) (subst (λ a. Moved (page-key-at a) moves-p (c .args .pages .now) (c .reach-result .last .pages)) (c .cut .ensures) moved-p);
       refused = λ e. absurd (clash (sym refuses ∙ e));
+      alike = λ n same. answers-alike (registers m) (record { arts = shown-a; pages = shown-p; view = view }) n (c .args .access) (c .args .register) (c .args .address) (length (c .args .list .now)) same;
       order = λ none-a none-p.
           counts .result
           ∙ ap₂ (λ x y. translation (registers m) x y view (c .args .access) (c .args .register) (c .args .address) (length (c .args .list .now)) .result) (silent-asks shown-a (access-fresh (view .word)) none-a) (silent-asks shown-p (page-fresh (view .word)) none-p)
           ∙ translation-ordered (registers m) view (c .args .access) (c .args .register) (c .args .address) (length (c .args .list .now));
     }
+
+pub returns-then-register-gt15 : need.returns-then-register-gt15
+returns-then-register-gt15 g c = search (needs, answers-alike)
+
+pub returns-then-list-lt12 : need.returns-then-list-lt12
+returns-then-list-lt12 g c = search (needs, answers-alike)
