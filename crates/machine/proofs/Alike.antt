@@ -132,11 +132,11 @@ module _ (r : Registers) (m n : Seen-by) (access : Access) (register address pla
       let free = unless-passed LowAddress (low-protected r access (cut (r .size) address)) u passed in
       then-alike (m .view .word) (n .view .word) (real-of (page-asks (m .pages) (m .view .word)) access space (cut (r .size) address)) (real-of (page-asks (n .pages) (n .view .word)) access space (cut (r .size) address)) (λ real. reached r (m .view) access real) (λ real. reached r (n .view) access real)
       (real-alike (m .view .word) (n .view .word) (page-asks (m .pages) (m .view .word)) (page-asks (n .pages) (n .view .word)) access space (cut (r .size) address)
-        (λ k asks t. asked-alike (m .view .word) (n .view .word) page-limit (page-walk k) (m .pages k) (n .pages k) (alike .pages k (ap (page-asked r access (cut (r .size) address)) found ∙ ap (λ b. cond b None (space-asks space (cut (r .size) address))) free ∙ asks)) t))
+      (λ k asks t. asked-alike (m .view .word) (n .view .word) page-limit (page-walk k) (m .pages k) (n .pages k) (alike .pages k (ap (page-asked r access (cut (r .size) address)) found ∙ ap (λ b. cond b None (space-asks space (cut (r .size) address))) free ∙ asks)) t))
       (λ real e t.
-        let seen = then-ok (space-seen r m access register address places) (λ space. then (unless LowAddress (low-protected r access (cut (r .size) address))) (λ _. real-of (page-asks (m .pages) (m .view .word)) access space (cut (r .size) address))) space found
-            ∙ then-ok (unless LowAddress (low-protected r access (cut (r .size) address))) (λ _. real-of (page-asks (m .pages) (m .view .word)) access space (cut (r .size) address)) u passed ∙ e in
-        reached-alike r (m .view) (n .view) access real (alike .present real seen) (alike .key real seen))
+      let seen = then-ok (space-seen r m access register address places) (λ space. then (unless LowAddress (low-protected r access (cut (r .size) address))) (λ _. real-of (page-asks (m .pages) (m .view .word)) access space (cut (r .size) address))) space found
+      ∙ then-ok (unless LowAddress (low-protected r access (cut (r .size) address))) (λ _. real-of (page-asks (m .pages) (m .view .word)) access space (cut (r .size) address)) u passed ∙ e in
+      reached-alike r (m .view) (n .view) access real (alike .present real seen) (alike .key real seen))
       h
 
   reach-alike : Agree w v (then (space-seen r m access register address places) (late m) .list) → then (space-seen r n access register address places) (late n) ≡ then (space-seen r m access register address places) (late m)
@@ -144,7 +144,7 @@ module _ (r : Registers) (m n : Seen-by) (access : Access) (register address pla
   reach-alike h =
       then-alike (m .view .word) (n .view .word) (space-seen r m access register address places) (space-seen r n access register address places) (late m) (late n)
       (space-alike (m .view .word) (n .view .word) r (access-asks (m .arts) (m .view .word)) (access-asks (n .arts) (n .view .word)) (r .mode) register
-        (λ k asks t. asked-alike (m .view .word) (n .view .word) access-limit (access-walk k) (m .arts k) (n .arts k) (alike .arts k asks) t))
+      (λ k asks t. asked-alike (m .view .word) (n .view .word) access-limit (access-walk k) (m .arts k) (n .arts k) (alike .arts k asks) t))
       (λ space found t. then-alike (m .view .word) (n .view .word) (unless LowAddress low) (unless LowAddress low) (λ _. last m space) (λ _. last n space) (λ _. refl) (λ u passed t′. last-alike space u found passed t′) t)
       h
 

@@ -2,8 +2,8 @@
 use Prim.Native.Nat.{ℕ, _%_, _^_, _<_, _≤_}
 use native.Mathlib.Nat.{zero-add}
 use mathlib.Core.Path.{_≡_, refl, sym, ap, ap₂, subst, _∙_}
-use mathlib.Core.Bool.{Bool, true, false, cond, _&&_}
-use mathlib.Core.List.{List}
+use mathlib.Core.Bool.{Bool, true, false, cond, not, _&&_}
+use mathlib.Core.List.{List, [], _++_, append-nil}
 use lib.Dec.{eqb, ltb}
 use lib.ListN.{length}
 use borrow.Author.Tests.{eq-eqb, lt-ltb, le-ltb}
@@ -11,8 +11,9 @@ use Rattle.std.specs.declared.option.Option.{Option}
 use Rattle.std.specs.declared.result.Result.{Result}
 use Rattle.arch.specs.declared.call.Access.{Access}
 use Rattle.arch.specs.declared.condition.Condition.{Condition}
-use Rattle.arch.specs.declared.condition.Condition.the-variants.{BadNumber, ShortList}
-use Rattle.arch.specs.Walks.{Seen, Stepped, then}
+use Rattle.arch.specs.declared.condition.Condition.the-variants.{BadNumber, Unaligned, ShortList}
+use Rattle.std.specs.declared.result.Result.the-variants.{Ok, Err}
+use Rattle.arch.specs.Walks.{Seen, Stepped, onward, then, written}
 use Rattle.storage.specs.Views.{View}
 use Rattle.storage.specs.Prefixes.{lawful-prefix, prefixed}
 use Rattle.lookup.specs.declared.access.AccessKey.{AccessKey}
@@ -42,3 +43,32 @@ pub counted : {A : Type 0} {s t : Seen A} {before after : List ℕ} {to : ℕ} {
 counted {A} {s} {t} {before} {after} {to} {r} same p =
     subst (λ o. Counts o before after r to) (sym same)
     (record { result = p .result; count = p .used ∙ zero-add _; places = p .places; few = p .few })
+
+-- a call that goes on from a counted one and lists nothing more
+quiet-onward : {A B : Type 0} (l : List ℕ) (r : Result A Condition) (k : A → Seen B) → ((a : A) → k a .list ≡ []) → onward l r k .list ≡ l
+quiet-onward l (Ok a) k none = ap (λ m. l ++ m) (none a) ∙ append-nil l
+quiet-onward l (Err c) k none = refl
+
+pub counts-then : {A B : Type 0} {s : Seen A} {before after : List ℕ} {n : ℕ} {r : Result A Condition} (k : A → Seen B) → ((a : A) → k a .list ≡ []) → Counts s before after r n → Counts (then s k) before after (onward [] r k .result) n
+counts-then {A} {B} {s} {before} {after} {n} {r} k none p =
+    let same = quiet-onward (s .list) (s .result) k none in
+    record {
+      result = onward-list [] (s .list) r k ∙ ap (λ x. onward (s .list) x k .result) (p .result);
+      count = p .count ∙ ap length (sym same);
+      places = p .places ∙ ap (written before 0) (sym same);
+      few = subst (λ l. length l ≤ 12) (sym same) (p .few);
+    }
+  where
+    onward-list : (l m : List ℕ) (r : Result A Condition) (k : A → Seen B) → onward l r k .result ≡ onward m r k .result
+    onward-list l m (Ok a) k = refl
+    onward-list l m (Err c) k = refl
+
+-- neither refusal of a fetch or a store applies
+pub passes : {B : Type 0} (register address : ℕ) (s : Seen B) → register ≤ 15 → address % 8 ≡ 0 → then (unless BadNumber (ltb 15 register)) (λ _. then (unless Unaligned (not (eqb (address % 8) 0))) (λ _. s)) ≡ s
+passes register address s small even =
+    ap (λ b. then (unless BadNumber b) (λ _. then (unless Unaligned (not (eqb (address % 8) 0))) (λ _. s))) (le-ltb _ _ small)
+    ∙ ap (λ b. then (unless Unaligned (not b)) (λ _. s)) (eq-eqb _ _ even)
+
+-- the same count of another term for the result
+pub counts-as : {A : Type 0} {s : Seen A} {before after : List ℕ} {r q : Result A Condition} {n : ℕ} → r ≡ q → Counts s before after q n → Counts s before after r n
+counts-as e p = record { result = e ∙ p .result; count = p .count; places = p .places; few = p .few }

@@ -1,3 +1,4 @@
+pub mod Accesses
 pub mod Alike
 pub mod Calls
 pub mod Law

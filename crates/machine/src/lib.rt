@@ -1,4 +1,5 @@
 // The machine: its register set, and the calls that it answers over a storage and two sources.
+mod access;
 mod load;
 mod machine;
 mod perform;

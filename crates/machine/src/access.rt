@@ -1,0 +1,118 @@
+// Fetch and store: a translation, and then the doubleword.
+ghost use lib.ListN.{length};
+ghost use mathlib.Core.Path.{_≡_};
+ghost use Rattle.arch.specs.declared.call.Access.the-variants.{Store};
+ghost use Rattle.lookup.specs.Access.{access-fits};
+ghost use Rattle.lookup.specs.Lookups.{access-fresh, page-fresh, access-asks, page-asks};
+ghost use Rattle.lookup.specs.Sources.{Kept};
+ghost use Rattle.lookup.specs.Spelling.{page-fits};
+ghost use Rattle.machine.specs.Accesses.{value-there, accessing, fetching, storing, stored-at};
+ghost use Rattle.machine.specs.Calls.{Counts};
+ghost use Rattle.machine.specs.Registers.{registers};
+ghost use Rattle.storage.specs.Prefixes.{prefixed};
+use crate::machine::Counted;
+use crate::registers::Machine;
+use arch::call::Access;
+use arch::condition::Condition;
+use lookup::kinds::AccessRegister;
+use lookup::kinds::Paging;
+use lookup::source::Source;
+use storage::prefix::Prefixed;
+use storage::prefix::PrefixedStorage;
+use storage::storage::Storage;
+
+impl Machine {
+    // The doubleword at a real address.
+    fn fetch_real<S: Storage>(&self, storage: &mut Prefixed<S>, real: u64) -> Result<u64, Condition>
+        ensures result { λ r. ⌜ r ≡ value-there (prefixed (now (self .entry) .prefix) (S·Storage .view (now (storage .entry) .beneath)) .word real) ⌝ }
+        ensures under { λ _. ⌜ now (storage .exit) .beneath ≡ now (storage .entry) .beneath ⌝ }
+    {
+        let _ = storage.set_prefix(self.prefix);
+        storage.fetch(real).ok_or(Condition::Addressing)
+    }
+
+    // Fetches the doubleword at an address, by an access register.
+    pub fn fetch<S: Storage, A: Source<AccessRegister>, P: Source<Paging>>(
+        &mut self,
+        storage: &mut Prefixed<S>,
+        arts: &mut A,
+        pages: &mut P,
+        register: u64,
+        address: u64,
+        list: &mut [u64],
+    ) -> Counted<u64>
+        ensures gives { λ r. ⌜ Counts (fetching (registers (now (self .entry))) (access-asks (A·Source .shows (now (arts .entry))) (prefixed (now (self .entry) .prefix) (S·Storage .view (now (storage .entry) .beneath)) .word)) (page-asks (P·Source .shows (now (pages .entry))) (prefixed (now (self .entry) .prefix) (S·Storage .view (now (storage .entry) .beneath)) .word)) (prefixed (now (self .entry) .prefix) (S·Storage .view (now (storage .entry) .beneath))) register address (length (now (list .entry)))) (now (list .entry)) (now (list .exit)) (r .result) (r .count) ⌝ }
+        ensures registers { λ _. ⌜ now (self .exit) ≡ now (self .entry) ⌝ }
+        ensures storage { λ _. ⌜ now (storage .exit) .beneath ≡ now (storage .entry) .beneath ⌝ }
+        ensures arts { λ _. ⌜ Kept access-fits (access-fresh (prefixed (now (self .entry) .prefix) (S·Storage .view (now (storage .entry) .beneath)) .word)) (A·Source .holds (now (arts .entry))) (A·Source .holds (now (arts .exit))) ⌝ }
+        ensures pages { λ _. ⌜ Kept page-fits (page-fresh (prefixed (now (self .entry) .prefix) (S·Storage .view (now (storage .entry) .beneath)) .word)) (P·Source .holds (now (pages .entry))) (P·Source .holds (now (pages .exit))) ⌝ }
+    {
+        if register > 15 {
+            return Counted {
+                result: Err(Condition::BadNumber),
+                count: 0,
+            };
+        }
+        if address % 8 != 0 {
+            return Counted {
+                result: Err(Condition::Unaligned),
+                count: 0,
+            };
+        }
+        let reached = self.translate(storage, arts, pages, Access::Fetch, register, address, list);
+        let count = reached.count;
+        match reached.result {
+            Ok(real) => Counted {
+                result: self.fetch_real(storage, real),
+                count,
+            },
+            Err(condition) => Counted {
+                result: Err(condition),
+                count,
+            },
+        }
+    }
+
+    // Stores the doubleword at an address, by an access register.
+    pub fn store<S: Storage, A: Source<AccessRegister>, P: Source<Paging>>(
+        &mut self,
+        storage: &mut Prefixed<S>,
+        arts: &mut A,
+        pages: &mut P,
+        register: u64,
+        address: u64,
+        value: u64,
+        list: &mut [u64],
+    ) -> Counted<()>
+        ensures gives { λ r. ⌜ Counts (storing (registers (now (self .entry))) (access-asks (A·Source .shows (now (arts .entry))) (prefixed (now (self .entry) .prefix) (S·Storage .view (now (storage .entry) .beneath)) .word)) (page-asks (P·Source .shows (now (pages .entry))) (prefixed (now (self .entry) .prefix) (S·Storage .view (now (storage .entry) .beneath)) .word)) (prefixed (now (self .entry) .prefix) (S·Storage .view (now (storage .entry) .beneath))) register address (length (now (list .entry)))) (now (list .entry)) (now (list .exit)) (r .result) (r .count) ⌝ }
+        ensures registers { λ _. ⌜ now (self .exit) ≡ now (self .entry) ⌝ }
+        ensures storage { λ _. ⌜ S·Storage .view (now (storage .exit) .beneath) ≡ stored-at (now (self .entry) .prefix) (S·Storage .view (now (storage .entry) .beneath)) value (accessing (registers (now (self .entry))) (access-asks (A·Source .shows (now (arts .entry))) (prefixed (now (self .entry) .prefix) (S·Storage .view (now (storage .entry) .beneath)) .word)) (page-asks (P·Source .shows (now (pages .entry))) (prefixed (now (self .entry) .prefix) (S·Storage .view (now (storage .entry) .beneath)) .word)) (prefixed (now (self .entry) .prefix) (S·Storage .view (now (storage .entry) .beneath))) register address (length (now (list .entry))) Store .result) ⌝ }
+        ensures arts { λ _. ⌜ Kept access-fits (access-fresh (prefixed (now (self .entry) .prefix) (S·Storage .view (now (storage .entry) .beneath)) .word)) (A·Source .holds (now (arts .entry))) (A·Source .holds (now (arts .exit))) ⌝ }
+        ensures pages { λ _. ⌜ Kept page-fits (page-fresh (prefixed (now (self .entry) .prefix) (S·Storage .view (now (storage .entry) .beneath)) .word)) (P·Source .holds (now (pages .entry))) (P·Source .holds (now (pages .exit))) ⌝ }
+    {
+        if register > 15 {
+            return Counted {
+                result: Err(Condition::BadNumber),
+                count: 0,
+            };
+        }
+        if address % 8 != 0 {
+            return Counted {
+                result: Err(Condition::Unaligned),
+                count: 0,
+            };
+        }
+        let reached = self.translate(storage, arts, pages, Access::Store, register, address, list);
+        let count = reached.count;
+        match reached.result {
+            Ok(real) => Counted {
+                result: self.put(storage, real, value),
+                count,
+            },
+            Err(condition) => Counted {
+                result: Err(condition),
+                count,
+            },
+        }
+    }
+}
