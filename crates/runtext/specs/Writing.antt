@@ -1,0 +1,47 @@
+-- What the functions that write leave in the buffer that is lent, and which run is refused.
+use mathlib.Core.Path.{_≡_}
+use mathlib.Core.Logic.{_⊎_}
+use mathlib.Core.List.{List, _++_}
+use Prim.Native.Nat.{ℕ, _+_, _≤_}
+use lib.Dec.{ltb}
+use lib.ListN.{length, take, drop}
+use Rattle.arch.specs.declared.call.Call.{Call}
+use Rattle.arch.specs.declared.condition.Condition.{Condition}
+use Rattle.arch.specs.declared.condition.Condition.the-variants.{TooMuch, BadText}
+use Rattle.arch.specs.declared.record.BlockKey.{BlockKey}
+use Rattle.arch.specs.declared.record.Word.{Word}
+use Rattle.std.specs.Orderings.{When}
+use Rattle.runtext.specs.declared.Counts.{Counts}
+use Rattle.runtext.specs.declared.Refusal.{Refusal}
+use Rattle.runtext.specs.declared.line.Line.{Line}
+use Rattle.runtext.specs.Lines.{kind-of, Sound}
+use Rattle.runtext.specs.Runs.{Run, spell, counts, Spellable, Spells}
+use Rattle.runtext.specs.Verdicts.{Full, Refused}
+
+-- these bytes stand from `at` to `end`, and the others are as they were
+pub record Laid (at : ℕ) (bytes before after : List ℕ) (end : ℕ) : Type 0 where
+  pub ends : end ≡ at + length bytes
+  pub text : after ≡ take at before ++ (bytes ++ drop end before)
+
+abbrev pub run-of : List Word → List BlockKey → List Call → Run
+run-of ws ks cs = record { words = ws; keys = ks; calls = cs }
+
+-- why this line may not come after those found
+abbrev pub Faulty : Counts → Counts → Line → Condition → Type 0
+Faulty p found l c = ((c ≡ TooMuch) × Full p found (kind-of l)) ⊎ ((c ≡ BadText) × (Full p found (kind-of l) → ⊥) × (Sound l → ⊥))
+
+-- the refusal of a run by the writer, where the buffer has this many bytes
+-- A text too long for the buffer is refused first, on line 1. Any other run is refused as reading would refuse the text that it spells, given a place for each of its records: for its length on line 1, or else on the first line that no run has, there for the limit of its sort before what it holds.
+abbrev pub Unwritten : ℕ → Run → Refusal → Type 0
+Unwritten room r e = When (ltb room (length (spell r))) ((e .condition ≡ TooMuch) × (e .line ≡ 1)) (Refused (counts r) (spell r) e)
+
+-- the buffer after a run was written into it: its first n bytes are the run's text, and the others are as they were
+pub record Written (r : Run) (before after : List ℕ) (n : ℕ) : Type 0 where
+  pub spellable : Spellable r
+  pub long : n ≡ length (spell r)
+  pub text : take n after ≡ spell r
+  pub rest : drop n after ≡ drop n before
+
+-- the round trip of a run: wherever there are places for it, this text says it, and it alone
+abbrev pub Reads-back : Run → List ℕ → Type 0
+Reads-back r text = (p : Counts) → length (r .words) ≤ p .words → length (r .keys) ≤ p .keys → length (r .calls) ≤ p .calls → Spells p text r × ((q : Run) → Spells p text q → q ≡ r)
