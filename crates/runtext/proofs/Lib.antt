@@ -9,4 +9,5 @@ pub mod OneRefusal
 pub mod Outgoing
 pub mod Runs
 pub mod Sofar
+pub mod Trips
 pub mod Written

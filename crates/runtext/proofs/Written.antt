@@ -10,10 +10,11 @@ use Rattle.arch.specs.declared.condition.Condition.the-variants.{TooMuch}
 use Rattle.std.proofs.shelf.Lists.{take-at, drop-at}
 use Rattle.std.proofs.shelf.Tests.{le-ltb}
 use Rattle.std.specs.Orderings.{When}
+use Rattle.runtext.specs.declared.Counts.{Counts}
 use Rattle.runtext.specs.declared.Refusal.{Refusal}
-use Rattle.runtext.specs.Runs.{Run, spell, counts, Spellable}
+use Rattle.runtext.specs.Runs.{Run, spell, Spellable}
 use Rattle.runtext.specs.Verdicts.{Refused}
-use Rattle.runtext.specs.Writing.{Laid, Written, Unwritten, Reads-back}
+use Rattle.runtext.specs.Writing.{Laid, Written, Refused-in, Reads-back}
 use Rattle.runtext.proofs.OneRefusal.{one-refusal}
 use Rattle.runtext.proofs.Runs.{text-same}
 
@@ -30,16 +31,16 @@ written r before after n s l =
 pub reads-back : (r : Run) (text : List ℕ) → Spellable r → text ≡ spell r → Reads-back r text
 reads-back r text s e = λ p w k c. ((record { spellable = s; words = w; keys = k; calls = c }, sym e), λ q h. text-same q r (h .1 ∙ e))
 
--- a run whose text the buffer has room for is refused as its text is
-pub unwritten : (room : ℕ) (r : Run) (e : Refusal) → length (spell r) ≤ room → Refused (counts r) (spell r) e → Unwritten room r e
-unwritten room r e h b = subst (λ t. When t ((e .condition ≡ TooMuch) × (e .line ≡ 1)) (Refused (counts r) (spell r) e)) (sym (le-ltb room (length (spell r)) h)) b
+-- a text that the buffer has room for is refused as it is by reading
+pub refused-in : (room : ℕ) (p : Counts) (text : List ℕ) (e : Refusal) → length text ≤ room → Refused p text e → Refused-in room p text e
+refused-in room p text e h b = subst (λ t. When t ((e .condition ≡ TooMuch) × (e .line ≡ 1)) (Refused p text e)) (sym (le-ltb room (length text) h)) b
 
-pub one-unwritten : (room : ℕ) (r : Run) (e d : Refusal) → Unwritten room r e → Unwritten room r d → e ≡ d
-one-unwritten room r e d = by-length (ltb room (length (spell r)))
+pub one-refused-in : (room : ℕ) (p : Counts) (text : List ℕ) (e d : Refusal) → Refused-in room p text e → Refused-in room p text d → e ≡ d
+one-refused-in room p text e d = by-length (ltb room (length text))
   where
     Verdict : Bool → Refusal → Type 0
-    Verdict t e = When t ((e .condition ≡ TooMuch) × (e .line ≡ 1)) (Refused (counts r) (spell r) e)
+    Verdict t e = When t ((e .condition ≡ TooMuch) × (e .line ≡ 1)) (Refused p text e)
 
     by-length : (t : Bool) → Verdict t e → Verdict t d → e ≡ d
     by-length true a b = λ i. record { condition = (a .0 ∙ sym (b .0)) i; line = (a .1 ∙ sym (b .1)) i }
-    by-length false a b = one-refusal (counts r) (spell r) e d a b
+    by-length false a b = one-refusal p text e d a b

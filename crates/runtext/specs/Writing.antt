@@ -30,10 +30,14 @@ run-of ws ks cs = record { words = ws; keys = ks; calls = cs }
 abbrev pub Faulty : Counts → Counts → Line → Condition → Type 0
 Faulty p found l c = ((c ≡ TooMuch) × Full p found (kind-of l)) ⊎ ((c ≡ BadText) × (Full p found (kind-of l) → ⊥) × (Sound l → ⊥))
 
--- the refusal of a run by the writer, where the buffer has this many bytes
--- A text too long for the buffer is refused first, on line 1. Any other run is refused as reading would refuse the text that it spells, given a place for each of its records: for its length on line 1, or else on the first line that no run has, there for the limit of its sort before what it holds.
+-- the refusal of a text that has to go into a buffer of this many bytes, given places for a run: for want of bytes first, on line 1, and then as reading refuses it
+abbrev pub Refused-in : ℕ → Counts → List ℕ → Refusal → Type 0
+Refused-in room p text e = When (ltb room (length text)) ((e .condition ≡ TooMuch) × (e .line ≡ 1)) (Refused p text e)
+
+-- the refusal of a run by the writer: that of the text that it spells, given a place for each of its records
+-- So a text that is too long, for the buffer or for the limit, is refused before all else, on line 1. Any other is refused on the first line that no run has after those before it, and there for the limit of its sort before what the line holds.
 abbrev pub Unwritten : ℕ → Run → Refusal → Type 0
-Unwritten room r e = When (ltb room (length (spell r))) ((e .condition ≡ TooMuch) × (e .line ≡ 1)) (Refused (counts r) (spell r) e)
+Unwritten room r e = Refused-in room (counts r) (spell r) e
 
 -- the buffer after a run was written into it: its first n bytes are the run's text, and the others are as they were
 pub record Written (r : Run) (before after : List ℕ) (n : ℕ) : Type 0 where
@@ -45,3 +49,9 @@ pub record Written (r : Run) (before after : List ℕ) (n : ℕ) : Type 0 where
 -- the round trip of a run: wherever there are places for it, this text says it, and it alone
 abbrev pub Reads-back : Run → List ℕ → Type 0
 Reads-back r text = (p : Counts) → length (r .words) ≤ p .words → length (r .keys) ≤ p .keys → length (r .calls) ≤ p .calls → Spells p text r × ((q : Run) → Spells p text q → q ≡ r)
+
+-- the buffer after a text was read and written out again: its first n bytes are that text, and the others are as they were
+pub record Reopened (text before after : List ℕ) (n : ℕ) : Type 0 where
+  pub long : n ≡ length text
+  pub same : take n after ≡ text
+  pub rest : drop n after ≡ drop n before

@@ -27,6 +27,7 @@ mod out;
 mod scan;
 mod size;
 mod step;
+pub mod trip;
 
 // The most bytes that a text has.
 const BYTES: usize = 65536;

@@ -4,7 +4,7 @@ use Rattle.std.proofs.shelf.Results.{err-from-errBy}
 use Rattle.runtext.specs.Runs.{spell, counts}
 use Rattle.runtext.specs.Writing.{Unwritten, run-of}
 use Rattle.runtext.proofs.OneRefusal.{refused-short}
-use Rattle.runtext.proofs.Written.{written, unwritten, one-unwritten, reads-back}
+use Rattle.runtext.proofs.Written.{written, refused-in, one-refused-in, reads-back}
 use Rattle.runtext.proofs.write.Needs as need
 
 pub returns-in-Break-judge-run : need.returns-in-Break-judge-run
@@ -13,12 +13,12 @@ returns-in-Break-judge-run c =
     let e = c .in-Break-judge-run .field-0 .0 in
     let told = c .in-Break-judge-run .ensures tt in
     let short = c .if-not-fits .ensures tt .0 refl in
-    let bad : Unwritten _ r e = unwritten _ r e (omega arith) (refused-short (counts r) (spell r) e (omega arith) (told .0)) in
+    let bad : Unwritten _ r e = refused-in _ (counts r) (spell r) e (omega arith) (refused-short (counts r) (spell r) e (omega arith) (told .0)) in
     let p = err-from-errBy (c .from-residual .result) (c .from-residual .ensures .1) in
     rw (p .1, p .2) (record {
       written = tt;
       refused = bad;
-      single = λ d h. one-unwritten _ r d e h bad;
+      single = λ d h. one-refused-in _ (counts r) (spell r) d e h bad;
       complete = λ s _. told .1 s;
       unaltered = refl;
       again = tt;
