@@ -5,7 +5,7 @@ use mathlib.Core.List.{List}
 use Prim.Native.Nat.{ℕ, _≤_}
 use native.Mathlib.Omega.{arith}
 use lib.Dec.{ltb}
-use lib.ListN.{length, take, drop}
+use lib.ListN.{length, take, drop, length-append}
 use Rattle.arch.specs.declared.condition.Condition.the-variants.{TooMuch}
 use Rattle.std.proofs.shelf.Lists.{take-at, drop-at}
 use Rattle.std.proofs.shelf.Tests.{le-ltb}
@@ -24,6 +24,7 @@ written r before after n s l =
     record {
       spellable = s;
       long = sym long;
+      within = omega (arith, ap length (l .text), length-append (spell r) (drop n before));
       text = ap (take n) (l .text) ∙ take-at (spell r) (drop n before) n long;
       rest = ap (drop n) (l .text) ∙ drop-at (spell r) (drop n before) n long;
     }

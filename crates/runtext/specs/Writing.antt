@@ -15,7 +15,7 @@ use Rattle.runtext.specs.declared.Counts.{Counts}
 use Rattle.runtext.specs.declared.Refusal.{Refusal}
 use Rattle.runtext.specs.declared.line.Line.{Line}
 use Rattle.runtext.specs.Lines.{kind-of, Sound}
-use Rattle.runtext.specs.Runs.{Run, spell, counts, Spellable, Spells}
+use Rattle.runtext.specs.Runs.{Run, spell, counts, run-in, Spellable, Spells}
 use Rattle.runtext.specs.Verdicts.{Full, Refused}
 
 -- these bytes stand from `at` to `end`, and the others are as they were
@@ -43,6 +43,7 @@ Unwritten room r e = Refused-in room (counts r) (spell r) e
 pub record Written (r : Run) (before after : List ℕ) (n : ℕ) : Type 0 where
   pub spellable : Spellable r
   pub long : n ≡ length (spell r)
+  pub within : n ≤ length after
   pub text : take n after ≡ spell r
   pub rest : drop n after ≡ drop n before
 
@@ -53,5 +54,15 @@ Reads-back r text = (p : Counts) → length (r .words) ≤ p .words → length (
 -- the buffer after a text was read and written out again: its first n bytes are that text, and the others are as they were
 pub record Reopened (text before after : List ℕ) (n : ℕ) : Type 0 where
   pub long : n ≡ length text
+  pub within : n ≤ length after
   pub same : take n after ≡ text
   pub rest : drop n after ≡ drop n before
+
+-- the places after a run was written out and read again: the first n of them have that run
+pub record Restored (r : Run) (ws : List Word) (ks : List BlockKey) (cs : List Call) (n : Counts) : Type 0 where
+  pub counted : n ≡ counts r
+  pub same : run-in ws ks cs n ≡ r
+
+-- the refusal of a run on that way: by the writer, with the buffer as it was, or, once the text was written, by the reader
+abbrev pub Unrestored : List ℕ → List ℕ → Counts → Run → Refusal → Type 0
+Unrestored before after p r e = (Unwritten (length before) r e × (after ≡ before)) ⊎ ((k : ℕ) × Written r before after k × Refused p (spell r) e)

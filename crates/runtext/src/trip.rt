@@ -1,12 +1,11 @@
 // The round trips, from a text to its run and back, and from a run to its text and back.
 ghost use mathlib.Core.Path.{_≡_};
-ghost use mathlib.Core.Logic.{_⊎_};
-ghost use Prim.Native.Nat.{ℕ};
+ghost use Prim.Native.Nat.{ℕ, _≤_};
 ghost use lib.ListN.{length};
 ghost use Rattle.std.specs.Vec.{made, refused};
 ghost use Rattle.runtext.specs.Passes.{Filled};
-ghost use Rattle.runtext.specs.Runs.{lent};
-ghost use Rattle.runtext.specs.Writing.{Refused-in, Reopened};
+ghost use Rattle.runtext.specs.Runs.{Readable, lent, spell};
+ghost use Rattle.runtext.specs.Writing.{Refused-in, Reopened, Restored, Unrestored, Written, run-of};
 use crate::Counts;
 use crate::Refusal;
 use crate::TOO_LONG;
@@ -41,4 +40,25 @@ pub fn reopened(
         calls: c,
     } = found;
     write(&words[0..w], &keys[0..k], &calls[0..c], copy)
+}
+
+// Writes a run out into a buffer and reads it from there again: the same run. A refusal alters none
+// of the places, and the buffer only where there are too few of them, so that the writer had done.
+pub fn restored(
+    words: &[Word],
+    keys: &[BlockKey],
+    calls: &[Call],
+    text: &mut [u8],
+    words_again: &mut [Word],
+    keys_again: &mut [BlockKey],
+    calls_again: &mut [Call],
+) -> Result<Counts, Refusal>
+    ensures same { λ r. ⌜ made r (λ n. Restored (run-of (now (words .entry)) (now (keys .entry)) (now (calls .entry))) (now («words_again» .exit)) (now («keys_again» .exit)) (now («calls_again» .exit)) n) ⌝ }
+    ensures written { λ r. ⌜ made r (λ _. (k : ℕ) × Written (run-of (now (words .entry)) (now (keys .entry)) (now (calls .entry))) (now (text .entry)) (now (text .exit)) k) ⌝ }
+    ensures refused { λ r. ⌜ refused r (λ e. Unrestored (now (text .entry)) (now (text .exit)) (lent (now («words_again» .entry)) (now («keys_again» .entry)) (now («calls_again» .entry))) (run-of (now (words .entry)) (now (keys .entry)) (now (calls .entry))) e) ⌝ }
+    ensures complete { λ r. ⌜ refused r (λ _. Readable (lent (now («words_again» .entry)) (now («keys_again» .entry)) (now («calls_again» .entry))) (run-of (now (words .entry)) (now (keys .entry)) (now (calls .entry))) → length (spell (run-of (now (words .entry)) (now (keys .entry)) (now (calls .entry)))) ≤ length (now (text .entry)) → ⊥) ⌝ }
+    ensures unaltered { λ r. ⌜ refused r (λ _. (now («words_again» .exit) ≡ now («words_again» .entry)) × (now («keys_again» .exit) ≡ now («keys_again» .entry)) × (now («calls_again» .exit) ≡ now («calls_again» .entry))) ⌝ }
+{
+    let n = write(words, keys, calls, text)?;
+    read(&text[0..n], words_again, keys_again, calls_again)
 }

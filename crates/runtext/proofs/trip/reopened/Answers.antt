@@ -3,8 +3,8 @@ use native.Mathlib.Nat.{sub-zero}
 use native.Mathlib.Omega.{arith}
 use lib.ListN.{take}
 use Rattle.std.proofs.shelf.Results.{err-from-errBy}
-use Rattle.runtext.specs.Runs.{Run, Spells, lent, run-in}
-use Rattle.runtext.specs.Writing.{Refused-in, run-of}
+use Rattle.runtext.specs.Runs.{Spells, lent, run-in}
+use Rattle.runtext.specs.Writing.{Refused-in}
 use Rattle.runtext.proofs.Trips.{back}
 use Rattle.runtext.proofs.Written.{refused-in, one-refused-in}
 use Rattle.runtext.proofs.trip.reopened.Needs as need
