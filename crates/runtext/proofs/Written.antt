@@ -30,7 +30,7 @@ written r before after n s l =
     }
 
 pub reads-back : (r : Run) (text : List ℕ) → Spellable r → text ≡ spell r → Reads-back r text
-reads-back r text s e = λ p w k c. ((record { spellable = s; words = w; keys = k; calls = c }, sym e), λ q h. text-same q r (h .1 ∙ e))
+reads-back r text s e = λ p h. ((record { spellable = s; words = h .0; keys = h .1; calls = h .2 }, sym e), λ q h. text-same q r (h .1 ∙ e))
 
 -- a text that the buffer has room for is refused as it is by reading
 pub refused-in : (room : ℕ) (p : Counts) (text : List ℕ) (e : Refusal) → length text ≤ room → Refused p text e → Refused-in room p text e

@@ -47,9 +47,13 @@ pub record Written (r : Run) (before after : List ℕ) (n : ℕ) : Type 0 where
   pub text : take n after ≡ spell r
   pub rest : drop n after ≡ drop n before
 
+-- there is a place for each record of a run
+abbrev pub Has-places : Counts → Run → Type 0
+Has-places p r = (length (r .words) ≤ p .words) × (length (r .keys) ≤ p .keys) × (length (r .calls) ≤ p .calls)
+
 -- the round trip of a run: wherever there are places for it, this text says it, and it alone
 abbrev pub Reads-back : Run → List ℕ → Type 0
-Reads-back r text = (p : Counts) → length (r .words) ≤ p .words → length (r .keys) ≤ p .keys → length (r .calls) ≤ p .calls → Spells p text r × ((q : Run) → Spells p text q → q ≡ r)
+Reads-back r text = (p : Counts) → Has-places p r → Spells p text r × ((q : Run) → Spells p text q → q ≡ r)
 
 -- the buffer after a text was read and written out again: its first n bytes are that text, and the others are as they were
 pub record Reopened (text before after : List ℕ) (n : ℕ) : Type 0 where
@@ -63,6 +67,6 @@ pub record Restored (r : Run) (ws : List Word) (ks : List BlockKey) (cs : List C
   pub counted : n ≡ counts r
   pub same : run-in ws ks cs n ≡ r
 
--- the refusal of a run on that way: by the writer, with the buffer as it was, or, once the text was written, by the reader
-abbrev pub Unrestored : List ℕ → List ℕ → Counts → Run → Refusal → Type 0
-Unrestored before after p r e = (Unwritten (length before) r e × (after ≡ before)) ⊎ ((k : ℕ) × Written r before after k × Refused p (spell r) e)
+-- the refusal of a run on that way: for want of places first, on line 1, and then by the writer
+abbrev pub Unrestored : ℕ → Counts → Run → Refusal → Type 0
+Unrestored room p r e = ((Has-places p r → ⊥) × (e .condition ≡ TooMuch) × (e .line ≡ 1)) ⊎ (Has-places p r × Unwritten room r e)

@@ -47,8 +47,8 @@ pub struct Refusal {
     pub line: usize,
 }
 
-// The refusal of a text for its length.
-const TOO_LONG: Refusal = Refusal {
+// The refusal of what is too much as a whole, and not on a line of its own.
+const NO_ROOM: Refusal = Refusal {
     condition: Condition::TooMuch,
     line: 1,
 };
@@ -68,7 +68,7 @@ pub fn read(
     ensures unaltered { λ r. ⌜ refused r (λ _. (now (words .exit) ≡ now (words .entry)) × (now (keys .exit) ≡ now (keys .entry)) × (now (calls .exit) ≡ now (calls .entry))) ⌝ }
 {
     if text.len() > BYTES {
-        return Err(TOO_LONG);
+        return Err(NO_ROOM);
     }
     judge(
         text,
@@ -97,7 +97,7 @@ pub fn write(
     ensures again { λ r. ⌜ made r (λ n. Reads-back (run-of (now (words .entry)) (now (keys .entry)) (now (calls .entry))) (take n (now (text .exit)))) ⌝ }
 {
     if !fits(words, keys, calls, BYTES.min(text.len())) {
-        return Err(TOO_LONG);
+        return Err(NO_ROOM);
     }
     judge_run(words, keys, calls)?;
     Ok(lay_run(words, keys, calls, text))

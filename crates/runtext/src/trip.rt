@@ -7,8 +7,8 @@ ghost use Rattle.runtext.specs.Passes.{Filled};
 ghost use Rattle.runtext.specs.Runs.{Readable, lent, spell};
 ghost use Rattle.runtext.specs.Writing.{Refused-in, Reopened, Restored, Unrestored, Written, run-of};
 use crate::Counts;
+use crate::NO_ROOM;
 use crate::Refusal;
-use crate::TOO_LONG;
 use crate::read;
 use crate::write;
 use arch::call::Call;
@@ -31,7 +31,7 @@ pub fn reopened(
     ensures unaltered { λ r. ⌜ refused r (λ _. (now (words .exit) ≡ now (words .entry)) × (now (keys .exit) ≡ now (keys .entry)) × (now (calls .exit) ≡ now (calls .entry)) × (now (copy .exit) ≡ now (copy .entry))) ⌝ }
 {
     if copy.len() < text.len() {
-        return Err(TOO_LONG);
+        return Err(NO_ROOM);
     }
     let found = read(text, words, keys, calls)?;
     let Counts {
@@ -42,8 +42,8 @@ pub fn reopened(
     write(&words[0..w], &keys[0..k], &calls[0..c], copy)
 }
 
-// Writes a run out into a buffer and reads it from there again: the same run. A refusal alters none
-// of the places, and the buffer only where there are too few of them, so that the writer had done.
+// Writes a run out into a buffer and reads it from there again: the same run. Where it is refused,
+// or there are too few places for it, nothing is altered.
 pub fn restored(
     words: &[Word],
     keys: &[BlockKey],
@@ -55,10 +55,16 @@ pub fn restored(
 ) -> Result<Counts, Refusal>
     ensures same { λ r. ⌜ made r (λ n. Restored (run-of (now (words .entry)) (now (keys .entry)) (now (calls .entry))) (now («words_again» .exit)) (now («keys_again» .exit)) (now («calls_again» .exit)) n) ⌝ }
     ensures written { λ r. ⌜ made r (λ _. (k : ℕ) × Written (run-of (now (words .entry)) (now (keys .entry)) (now (calls .entry))) (now (text .entry)) (now (text .exit)) k) ⌝ }
-    ensures refused { λ r. ⌜ refused r (λ e. Unrestored (now (text .entry)) (now (text .exit)) (lent (now («words_again» .entry)) (now («keys_again» .entry)) (now («calls_again» .entry))) (run-of (now (words .entry)) (now (keys .entry)) (now (calls .entry))) e) ⌝ }
+    ensures refused { λ r. ⌜ refused r (λ e. Unrestored (length (now (text .entry))) (lent (now («words_again» .entry)) (now («keys_again» .entry)) (now («calls_again» .entry))) (run-of (now (words .entry)) (now (keys .entry)) (now (calls .entry))) e) ⌝ }
     ensures complete { λ r. ⌜ refused r (λ _. Readable (lent (now («words_again» .entry)) (now («keys_again» .entry)) (now («calls_again» .entry))) (run-of (now (words .entry)) (now (keys .entry)) (now (calls .entry))) → length (spell (run-of (now (words .entry)) (now (keys .entry)) (now (calls .entry)))) ≤ length (now (text .entry)) → ⊥) ⌝ }
-    ensures unaltered { λ r. ⌜ refused r (λ _. (now («words_again» .exit) ≡ now («words_again» .entry)) × (now («keys_again» .exit) ≡ now («keys_again» .entry)) × (now («calls_again» .exit) ≡ now («calls_again» .entry))) ⌝ }
+    ensures unaltered { λ r. ⌜ refused r (λ _. (now (text .exit) ≡ now (text .entry)) × (now («words_again» .exit) ≡ now («words_again» .entry)) × (now («keys_again» .exit) ≡ now («keys_again» .entry)) × (now («calls_again» .exit) ≡ now («calls_again» .entry))) ⌝ }
 {
+    if words_again.len() < words.len()
+        || keys_again.len() < keys.len()
+        || calls_again.len() < calls.len()
+    {
+        return Err(NO_ROOM);
+    }
     let n = write(words, keys, calls, text)?;
     read(&text[0..n], words_again, keys_again, calls_again)
 }
