@@ -13,6 +13,9 @@ use std::io;
 use std::io::Read;
 use std::io::Write;
 
+#[cfg(test)]
+mod tests;
+
 // One byte more than the longest text: enough to know that it is too long.
 const BYTES: usize = 65537;
 
