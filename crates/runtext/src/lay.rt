@@ -18,6 +18,8 @@ use arch::call::Access;
 use arch::call::Call;
 use arch::call::SourceName;
 
+pub const FIRST_LINE: &[u8] = b"RUN\t1\n";
+
 fn letter_of(kind: Kind) -> u8
     ensures { λ r. ⌜ r ≡ letter kind ⌝ }
 {
@@ -151,7 +153,6 @@ pub fn lay_header(text: &mut [u8]) -> usize
     requires { ⌜ length header ≤ length (now text) ⌝ }
     ensures { λ r. ⌜ Laid 0 header (now (text .entry)) (now (text .exit)) r ⌝ }
 {
-    let first = b"RUN\t1\n";
-    text[0..first.len()].copy_from_slice(first);
-    first.len()
+    text[0..FIRST_LINE.len()].copy_from_slice(FIRST_LINE);
+    FIRST_LINE.len()
 }

@@ -13,6 +13,7 @@ ghost use Rattle.runtext.specs.Verdicts.{Full, Bad-line};
 ghost use Rattle.runtext.specs.Writing.{Laid, Faulty, run-of};
 use crate::Counts;
 use crate::Refusal;
+use crate::lay::FIRST_LINE;
 use crate::lay::lay_header;
 use crate::lay::lay_line;
 use crate::line::Line;
@@ -26,9 +27,6 @@ use arch::call::Call;
 use arch::condition::Condition;
 use arch::record::BlockKey;
 use arch::record::Word;
-
-// The bytes of a text's first line.
-const HEADER: usize = 6;
 
 // The line of a run at an index, from 0, after the first.
 fn line_at(words: &[Word], keys: &[BlockKey], calls: &[Call], index: usize) -> Option<Line>
@@ -66,7 +64,7 @@ pub fn fits(words: &[Word], keys: &[BlockKey], calls: &[Call], most: usize) -> b
     requires { ⌜ most ≤ byte-limit ⌝ }
     ensures { λ r. ⌜ Decides r (length (spell (run-of (now (words .entry)) (now (keys .entry)) (now (calls .entry)))) ≤ most) ⌝ }
 {
-    let mut size = HEADER;
+    let mut size = FIRST_LINE.len();
     let mut index = 0;
     while let Some(line) = line_at(words, keys, calls, index) {
         if size > most {
