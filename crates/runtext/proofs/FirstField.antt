@@ -16,7 +16,7 @@ pub lacks-front : (c : ℕ) (p q : List ℕ) → Lacks c (p ++ q) → Lacks c p
 lacks-front c [] q h = tt
 lacks-front c (b ∷ p) q h = (h .0, lacks-front c p q (h .1))
 
-field-stops : (f x : List ℕ) → Lacks 9 f → Lacks 10 f → first-field x ≡ [] → first-field (f ++ x) ≡ f
+pub field-stops : (f x : List ℕ) → Lacks 9 f → Lacks 10 f → first-field x ≡ [] → first-field (f ++ x) ≡ f
 field-stops [] x l m e = e
 field-stops (b ∷ f) x l m e =
     cond-false _ _ _ (or-from _ _ (ne-eqb b 9 (l .0)) (ne-eqb b 10 (m .0))) ∙ ap (λ t. b ∷ t) (field-stops f x (l .1) (m .1) e)

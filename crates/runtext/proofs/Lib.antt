@@ -2,8 +2,12 @@ pub mod ByKind
 pub mod Cuts
 pub mod Filling
 pub mod FirstField
+pub mod Laying
 pub mod Lines
 pub mod Numerals
 pub mod OneRefusal
+pub mod Outgoing
 pub mod Runs
 pub mod Sofar
+pub mod Trips
+pub mod Written

@@ -46,7 +46,7 @@ unletter-letter (kind.Call verb.Purge) = refl
 pub letter-same : (j k : Kind) → letter j ≡ letter k → j ≡ k
 letter-same j k e = sym (unletter-letter j) ∙ ap unletter e ∙ unletter-letter k
 
-letter-least : (k : Kind) → 48 ≤ letter k
+pub letter-least : (k : Kind) → 48 ≤ letter k
 letter-least kind.Doubleword = omega arith
 letter-least kind.Key = omega arith
 letter-least (kind.Call verb.LoadControl) = omega arith

@@ -102,3 +102,17 @@ numeral-same (suc m) zero e = numeral-lead (suc m) (ap (λ l. getD l 0 0) e)
 numeral-same (suc m) (suc n) e =
     same-from-digitsOf 16 (suc m) (suc n) (omega arith)
     (map-same _ _ (under-digitsOf 16 (suc m) (omega arith)) (under-digitsOf 16 (suc n) (omega arith)) e)
+
+-- a numeral by its last digit
+pub numeral-digit : (n : ℕ) → n < 16 → numeral n ≡ hexit n ∷ []
+unfolding numeral
+numeral-digit zero h = refl
+numeral-digit (suc n) h =
+    let q : suc n / 16 ≡ 0 = omega arith in
+    let r : suc n % 16 ≡ suc n = omega arith in
+    ap (map hexit) (digitsOf-step 16 (suc n) (omega arith) (omega arith) ∙ (λ i. digitsOf 16 (q i) ++ r i ∷ []))
+
+pub numeral-last : (n : ℕ) → 16 ≤ n → numeral n ≡ numeral (n / 16) ++ hexit (n % 16) ∷ []
+numeral-last n h =
+    numeral-positive n (omega arith) ∙ ap (map hexit) (digitsOf-step 16 n (omega arith) (omega arith)) ∙ map-push hexit (digitsOf 16 (n / 16)) (n % 16)
+    ∙ ap (λ t. t ++ hexit (n % 16) ∷ []) (sym (numeral-positive (n / 16) (omega arith)))

@@ -21,7 +21,7 @@ use Rattle.runtext.specs.declared.line.Verb.the-variants as verb
 use Rattle.runtext.specs.Lines.{letter, two, call-fields, fields, verb-of, kind-of, spell-fields, spell-line, Sound}
 use Rattle.runtext.specs.Numerals.{numeral}
 use Rattle.runtext.specs.Runs.{Run, lines, spell, counts, Readable}
-use Rattle.runtext.specs.Verdicts.{Goes}
+use Rattle.runtext.specs.Verdicts.{Late, Goes}
 use Rattle.runtext.proofs.ByKind.{by-kind, by-verb}
 use Rattle.runtext.proofs.Cuts.{head-same, tail-same, cut-same, numeral-lacks, two-same}
 use Rattle.runtext.proofs.Lines.{letter-same, access-same, source-same, spell-lacks}
@@ -163,40 +163,45 @@ grows f ls ms ns z e = ap (λ t. length (joined f t)) e ∙ simp (joined-append,
 apart : (j k : Kind) → (letter j ≡ letter k → ⊥) → j ≡ k → ⊥
 apart j k h e = h (ap letter e)
 
--- the line after those of a run may come there
-pub goes : (p : Counts) (q r : Run) (z : Line) (zs : List Line) → Readable p q → lines q ≡ lines r ++ (z ∷ zs) → Goes p (counts r) (kind-of z)
-unfolding word-in key-in call-in
-goes p q r (line.Doubleword w) zs h e =
-    let more = grows word-in (lines q) (lines r) zs (line.Doubleword w) e in
+-- the line after those of a run stands in the order of the sorts
+pub in-order : (q r : Run) (z : Line) (zs : List Line) → lines q ≡ lines r ++ (z ∷ zs) → Late (counts r) (kind-of z) → ⊥
+unfolding key-in call-in
+in-order q r (line.Doubleword w) zs e =
     let P : Line → Type 0 = λ l. kind-of l ≡ kind.Doubleword → ⊥ in
     let d = in-front P (map line.Doubleword (q .words)) (map line.Key (q .keys) ++ map line.Call (q .calls)) (lines r) zs (line.Doubleword w)
     (all-append P (map line.Key (q .keys)) (map line.Call (q .calls)) (all-mapped P line.Key (λ k. apart _ _ (λ e. omega arith)) (q .keys)) (all-mapped P line.Call (λ c. λ e. never c e) (q .calls)))
     (λ n. n refl) e in
     let ks = grows key-in _ (lines r) (d .0) (line.Doubleword w) (d .1) in
-    let cs = grows call-in _ (lines r) (d .0) (line.Doubleword w) (d .1) in (
-      λ f. omega (arith, more, ap length (words-of-lines q), ap length (words-of-lines r), h .words, h .spellable .words),
-      λ f. omega (arith, ks, cs, ap length (joined-map-none key-in line.Doubleword (λ w. refl) (q .words)), ap length (joined-map-none call-in line.Doubleword (λ w. refl) (q .words)), ap length (keys-of-lines r), ap length (calls-of-lines r)),
-    )
+    let cs = grows call-in _ (lines r) (d .0) (line.Doubleword w) (d .1) in
+    λ f. omega (arith, ks, cs, ap length (joined-map-none key-in line.Doubleword (λ w. refl) (q .words)), ap length (joined-map-none call-in line.Doubleword (λ w. refl) (q .words)), ap length (keys-of-lines r), ap length (calls-of-lines r))
   where
     never : (c : Call) → kind.Call (verb-of c) ≡ kind.Doubleword → ⊥
     never c e = let z : _≡_ {A = ℕ} 0 1 = cc in omega arith
-goes p q r (line.Key k) zs h e =
-    let more = grows key-in (lines q) (lines r) zs (line.Key k) e in
+in-order q r (line.Key k) zs e =
     let P : Line → Type 0 = λ l. kind-of l ≡ kind.Key → ⊥ in
     let d = in-front P (map line.Doubleword (q .words) ++ map line.Key (q .keys)) (map line.Call (q .calls)) (lines r) zs (line.Key k)
     (all-mapped P line.Call (λ c. λ e. never c e) (q .calls))
     (λ n. n refl) (append-assoc _ (map line.Key (q .keys)) _ ∙ e) in
     let cs = grows call-in _ (lines r) (d .0) (line.Key k) (d .1) in
-    let none = joined-append call-in (map line.Doubleword (q .words)) (map line.Key (q .keys)) ∙ (λ i. joined-map-none call-in line.Doubleword (λ w. refl) (q .words) i ++ joined-map-none call-in line.Key (λ k. refl) (q .keys) i) in (
-      λ f. omega (arith, more, ap length (keys-of-lines q), ap length (keys-of-lines r), h .keys, h .spellable .keys),
-      λ f. omega (arith, cs, ap length none, ap length (calls-of-lines r)),
-    )
+    let none = joined-append call-in (map line.Doubleword (q .words)) (map line.Key (q .keys)) ∙ (λ i. joined-map-none call-in line.Doubleword (λ w. refl) (q .words) i ++ joined-map-none call-in line.Key (λ k. refl) (q .keys) i) in
+    λ f. omega (arith, cs, ap length none, ap length (calls-of-lines r))
   where
     never : (c : Call) → kind.Call (verb-of c) ≡ kind.Key → ⊥
     never c e = let z : _≡_ {A = ℕ} 0 1 = cc in omega arith
+in-order q r (line.Call c) zs e = λ f. f
+
+-- and may come there
+pub goes : (p : Counts) (q r : Run) (z : Line) (zs : List Line) → Readable p q → lines q ≡ lines r ++ (z ∷ zs) → Goes p (counts r) (kind-of z)
+unfolding word-in key-in call-in
+goes p q r (line.Doubleword w) zs h e =
+    let more = grows word-in (lines q) (lines r) zs (line.Doubleword w) e in
+    (λ f. omega (arith, more, ap length (words-of-lines q), ap length (words-of-lines r), h .words, h .spellable .words), in-order q r (line.Doubleword w) zs e)
+goes p q r (line.Key k) zs h e =
+    let more = grows key-in (lines q) (lines r) zs (line.Key k) e in
+    (λ f. omega (arith, more, ap length (keys-of-lines q), ap length (keys-of-lines r), h .keys, h .spellable .keys), in-order q r (line.Key k) zs e)
 goes p q r (line.Call c) zs h e =
     let more = grows call-in (lines q) (lines r) zs (line.Call c) e in
-    (λ f. omega (arith, more, ap length (calls-of-lines q), ap length (calls-of-lines r), h .calls), λ f. f)
+    (λ f. omega (arith, more, ap length (calls-of-lines q), ap length (calls-of-lines r), h .calls), in-order q r (line.Call c) zs e)
 
 -- a text that goes on from the text of a run
 run-goes-on : (q r : Run) (x : List ℕ) → spell q ≡ spell r ++ x → (ns : List Line) × (lines q ≡ lines r ++ ns) × (x ≡ joined spell-line ns)

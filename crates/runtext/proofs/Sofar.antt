@@ -31,7 +31,7 @@ add r (line.Doubleword w) = record { words = r .words ++ (w ∷ []); keys = r .k
 add r (line.Key k) = record { words = r .words; keys = r .keys ++ (k ∷ []); calls = r .calls }
 add r (line.Call c) = record { words = r .words; keys = r .keys; calls = r .calls ++ (c ∷ []) }
 
-lines-add : (r : Run) (l : Line) → (Late (counts r) (kind-of l) → ⊥) → lines (add r l) ≡ lines r ++ (l ∷ [])
+pub lines-add : (r : Run) (l : Line) → (Late (counts r) (kind-of l) → ⊥) → lines (add r l) ≡ lines r ++ (l ∷ [])
 lines-add r (line.Doubleword w) h =
     let ds = map line.Doubleword (r .words) in
     let ks : r .keys ≡ [] = nil-from-length (r .keys) (⊎-elim (λ e. e) (λ n. absurd (h (omega arith))) (cases-eq (length (r .keys)) 0)) in
@@ -88,15 +88,15 @@ start p text rest e = record {
 }
 
 -- there are fewer lines than bytes
-lines-few : (ls : List Line) → length ls ≤ length (joined spell-line ls)
+pub lines-few : (ls : List Line) → length ls ≤ length (joined spell-line ls)
 lines-few [] = omega arith
 lines-few (l ∷ ls) = omega (arith, lines-few ls, length-append (spell-line l) (joined spell-line ls))
 
-spell-long : (r : Run) → length (lines r) ≤ length (spell r)
+pub spell-long : (r : Run) → length (lines r) ≤ length (spell r)
 unfolding spell
 spell-long r = omega (arith, lines-few (lines r))
 
-lines-counted : (r : Run) → length (lines r) ≡ counts r .words + counts r .keys + counts r .calls
+pub lines-counted : (r : Run) → length (lines r) ≡ counts r .words + counts r .keys + counts r .calls
 lines-counted r = simp (length-append, length-map) (omega arith)
 
 pub few : (p : Counts) (text : List ℕ) (found : Counts) (rest : List ℕ) (r : Run) → Sofar p text found rest r → found .words + found .keys + found .calls ≤ length text

@@ -4,3 +4,4 @@ pub mod Passes
 pub mod Reading
 pub mod Runs
 pub mod Verdicts
+pub mod Writing

@@ -1,23 +1,33 @@
-// The reader of run texts: what a run is made of, in lines of fields.
+// The reader and the writer of run texts: what a run is made of, in lines of fields.
 ghost use mathlib.Core.Path.{_≡_};
+ghost use Prim.Native.Nat.{_≤_};
+ghost use lib.ListN.{length, take};
 ghost use Rattle.std.specs.Vec.{made, refused};
 ghost use Rattle.runtext.specs.Passes.{Filled};
-ghost use Rattle.runtext.specs.Runs.{Run, Spells, lent};
+ghost use Rattle.runtext.specs.Runs.{Run, Spellable, Spells, lent, spell};
 ghost use Rattle.runtext.specs.Verdicts.{Refused};
+ghost use Rattle.runtext.specs.Writing.{Reads-back, Unwritten, Written, run-of};
 use arch::call::Call;
 use arch::condition::Condition;
 use arch::condition::ConditionDebug;
 use arch::condition::ConditionPartialEq;
 use arch::record::BlockKey;
 use arch::record::Word;
+use out::fits;
+use out::judge_run;
+use out::lay_run;
 use scan::fill;
 use scan::judge;
 
 mod cut;
+mod lay;
 mod line;
 mod number;
+mod out;
 mod scan;
+mod size;
 mod step;
+pub mod trip;
 
 // The most bytes that a text has.
 const BYTES: usize = 65536;
@@ -37,6 +47,12 @@ pub struct Refusal {
     pub line: usize,
 }
 
+// The refusal of what is too much as a whole, and not on a line of its own.
+const NO_ROOM: Refusal = Refusal {
+    condition: Condition::TooMuch,
+    line: 1,
+};
+
 // Puts the one run that has this text into the first places of each sort. Where no run that has
 // places enough has it, nothing is altered.
 pub fn read(
@@ -52,10 +68,7 @@ pub fn read(
     ensures unaltered { λ r. ⌜ refused r (λ _. (now (words .exit) ≡ now (words .entry)) × (now (keys .exit) ≡ now (keys .entry)) × (now (calls .exit) ≡ now (calls .entry))) ⌝ }
 {
     if text.len() > BYTES {
-        return Err(Refusal {
-            condition: Condition::TooMuch,
-            line: 1,
-        });
+        return Err(NO_ROOM);
     }
     judge(
         text,
@@ -66,4 +79,26 @@ pub fn read(
         },
     )?;
     Ok(fill(text, words, keys, calls))
+}
+
+// Writes the text of a run into the first bytes of a buffer, and says how many those are. Where the
+// run has no text, or none that the buffer has room for, nothing is altered.
+pub fn write(
+    words: &[Word],
+    keys: &[BlockKey],
+    calls: &[Call],
+    text: &mut [u8],
+) -> Result<usize, Refusal>
+    ensures written { λ r. ⌜ made r (λ n. Written (run-of (now (words .entry)) (now (keys .entry)) (now (calls .entry))) (now (text .entry)) (now (text .exit)) n) ⌝ }
+    ensures refused { λ r. ⌜ refused r (λ e. Unwritten (length (now (text .entry))) (run-of (now (words .entry)) (now (keys .entry)) (now (calls .entry))) e) ⌝ }
+    ensures single { λ r. ⌜ refused r (λ e. (d : Refusal) → Unwritten (length (now (text .entry))) (run-of (now (words .entry)) (now (keys .entry)) (now (calls .entry))) d → d ≡ e) ⌝ }
+    ensures complete { λ r. ⌜ refused r (λ _. Spellable (run-of (now (words .entry)) (now (keys .entry)) (now (calls .entry))) → length (spell (run-of (now (words .entry)) (now (keys .entry)) (now (calls .entry)))) ≤ length (now (text .entry)) → ⊥) ⌝ }
+    ensures unaltered { λ r. ⌜ refused r (λ _. now (text .exit) ≡ now (text .entry)) ⌝ }
+    ensures again { λ r. ⌜ made r (λ n. Reads-back (run-of (now (words .entry)) (now (keys .entry)) (now (calls .entry))) (take n (now (text .exit)))) ⌝ }
+{
+    if !fits(words, keys, calls, BYTES.min(text.len())) {
+        return Err(NO_ROOM);
+    }
+    judge_run(words, keys, calls)?;
+    Ok(lay_run(words, keys, calls, text))
 }

@@ -1,6 +1,7 @@
 // The lines of a run text, and how one is read.
 ghost use mathlib.Core.Path.{_≡_};
 ghost use mathlib.Core.List.{[], _∷_};
+ghost use Rattle.std.specs.Orderings.{Decides};
 ghost use Rattle.runtext.specs.Lines.{letter, access-letter, source-letter, two, call-fields, fields, verb-of, kind-of, Number, Sound-call, Sound};
 ghost use Rattle.runtext.specs.Reading.{Reads};
 use crate::cut::cut;
@@ -43,6 +44,41 @@ pub enum Verb {
     Translate,
     Put,
     Purge,
+}
+
+fn verb_of(call: Call) -> Verb
+    ensures { λ r. ⌜ r ≡ verb-of call ⌝ }
+{
+    match call {
+        Call::LoadControl { .. } => Verb::LoadControl,
+        Call::LoadAccess { .. } => Verb::LoadAccess,
+        Call::LoadMode { .. } => Verb::LoadMode,
+        Call::SetPrefix { .. } => Verb::SetPrefix,
+        Call::Translate { .. } => Verb::Translate,
+        Call::Put { .. } => Verb::Put,
+        Call::Purge { .. } => Verb::Purge,
+    }
+}
+
+pub fn kind_of(line: Line) -> Kind
+    ensures { λ r. ⌜ r ≡ kind-of line ⌝ }
+{
+    match line {
+        Line::Doubleword(_) => Kind::Doubleword,
+        Line::Key(_) => Kind::Key,
+        Line::Call(call) => Kind::Call(verb_of(call)),
+    }
+}
+
+// Whether a line holds what the format can spell.
+pub fn sound(line: Line) -> bool
+    ensures { λ r. ⌜ Decides r (Sound line) ⌝ }
+{
+    match line {
+        Line::Doubleword(word) => word.address % 8 == 0,
+        Line::Key(key) => u64::from(key.key) < KEYS,
+        Line::Call(_) => true,
+    }
 }
 
 // The one byte of a field that has no more.

@@ -17,14 +17,14 @@ use arch::call::Call;
 use arch::record::BlockKey;
 use arch::record::Word;
 
-const NO_LINES: Counts = Counts {
+pub const NO_LINES: Counts = Counts {
     words: 0,
     keys: 0,
     calls: 0,
 };
 
 // These lines and one more.
-fn one_more(found: Counts, line: Line) -> Counts
+pub fn one_more(found: Counts, line: Line) -> Counts
     requires { ⌜ found .words + found .keys + found .calls ≤ byte-limit ⌝ }
     ensures { λ r. ⌜ r ≡ one-more found line ⌝ }
 {

@@ -23,7 +23,7 @@ const WORDS: usize = 1024;
 
 const KEYS: usize = 256;
 
-fn full(places: Counts, found: Counts, kind: Kind) -> bool
+pub fn full(places: Counts, found: Counts, kind: Kind) -> bool
     ensures { λ r. ⌜ Decides r (Full places found kind) ⌝ }
 {
     match kind {
