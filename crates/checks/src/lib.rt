@@ -4,6 +4,9 @@
 type Case = (&'static str, &'static str);
 
 #[cfg(test)]
+mod accesses;
+
+#[cfg(test)]
 mod tests {
     use super::*;
     use std::alloc::AllocError;
@@ -124,7 +127,7 @@ mod tests {
     ];
 
     // Runs through both lookasides.
-    const HELD: [Case; 9] = [
+    const HELD: [Case; 13] = [
         // forty pages: the round-robin rows are displaced in turn
         (
             "RUN\t1\nD\t10000\t20000\nD\t20000\t45000\nD\t20008\t45000\nD\t20010\t45000\nD\t20018\t45000\nD\t20020\t45000\nD\t20028\t45000\nD\t20030\t45000\nD\t20038\t45000\nD\t20040\t45000\nD\t20048\t45000\nD\t20050\t45000\nD\t20058\t45000\nD\t20060\t45000\nD\t20068\t45000\nD\t20070\t45000\nD\t20078\t45000\nD\t20080\t45000\nD\t20088\t45000\nD\t20090\t45000\nD\t20098\t45000\nD\t200a0\t45000\nD\t200a8\t45000\nD\t200b0\t45000\nD\t200b8\t45000\nD\t200c0\t45000\nD\t200c8\t45000\nD\t200d0\t45000\nD\t200d8\t45000\nD\t200e0\t45000\nD\t200e8\t45000\nD\t200f0\t45000\nD\t200f8\t45000\nD\t20100\t45000\nD\t20108\t45000\nD\t20110\t45000\nD\t20118\t45000\nD\t20120\t45000\nD\t20128\t45000\nD\t20130\t45000\nD\t20138\t45000\nD\t45000\t0\nK\t10\t0\nK\t20\t0\nK\t45\t0\nC\t1\t10000\nM\t1\t2\t0\nT\tF\t0\t0\nT\tF\t0\t1000\nT\tF\t0\t2000\nT\tF\t0\t3000\nT\tF\t0\t4000\nT\tF\t0\t5000\nT\tF\t0\t6000\nT\tF\t0\t7000\nT\tF\t0\t8000\nT\tF\t0\t9000\nT\tF\t0\ta000\nT\tF\t0\tb000\nT\tF\t0\tc000\nT\tF\t0\td000\nT\tF\t0\te000\nT\tF\t0\tf000\nT\tF\t0\t10000\nT\tF\t0\t11000\nT\tF\t0\t12000\nT\tF\t0\t13000\nT\tF\t0\t14000\nT\tF\t0\t15000\nT\tF\t0\t16000\nT\tF\t0\t17000\nT\tF\t0\t18000\nT\tF\t0\t19000\nT\tF\t0\t1a000\nT\tF\t0\t1b000\nT\tF\t0\t1c000\nT\tF\t0\t1d000\nT\tF\t0\t1e000\nT\tF\t0\t1f000\nT\tF\t0\t20000\nT\tF\t0\t21000\nT\tF\t0\t22000\nT\tF\t0\t23000\nT\tF\t0\t24000\nT\tF\t0\t25000\nT\tF\t0\t26000\nT\tF\t0\t27000\nT\tF\t0\t0\nT\tF\t0\t27000\nT\tF\t0\t8000\nT\tF\t0\t7000\n",
@@ -142,8 +145,8 @@ mod tests {
         ),
         // an access-register answer is held while the page is walked, and each purge leaves the other source
         (
-            "RUN\t1\nD\t1010\t200000000000\nD\t2020\t0\nD\t2028\t4000\nD\t4000\t0\nD\t4008\t10000\nD\t4010\t0\nD\t10000\t20000\nD\t20000\t45000\nD\t45000\t0\nK\t1\t0\nK\t2\t0\nK\t4\t0\nK\t10\t0\nK\t20\t0\nK\t45\t0\nC\t2\t1000\nA\t1\t2\nM\t2\t2\t0\nT\tF\t1\t0\nZ\tT\nT\tF\t1\t0\nZ\tA\nT\tF\t1\t0\nT\tF\t1\t0\nW\t4008\t0\nT\tF\t1\t0\nX\t0\nT\tF\t1\t0\n",
-            "20\tE\t5\taddressing\t4\n21\tZ\n22\tE\t5\taddressing\t4\n23\tZ\n24\tE\t5\taddressing\t4\n25\tE\t5\taddressing\t4\n26\tW\n27\tE\t5\taddressing\t4\n29\tE\t5\taddressing\t4\n",
+            "RUN\t1\nD\t1010\t200000000000\nD\t2020\t0\nD\t2028\t400000000000\nD\t4000\t0\nD\t4008\t10000\nD\t4010\t0\nD\t10000\t20000\nD\t20000\t45000\nD\t45000\t0\nK\t1\t0\nK\t2\t0\nK\t4\t0\nK\t10\t0\nK\t20\t0\nK\t45\t0\nC\t2\t1000\nA\t1\t2\nM\t2\t2\t0\nT\tF\t1\t0\nZ\tT\nT\tF\t1\t0\nZ\tA\nT\tF\t1\t0\nT\tF\t1\t0\nW\t4008\t0\nT\tF\t1\t0\nX\t0\nT\tF\t1\t0\n",
+            "20\tR\t45000\t8\n21\tZ\n22\tR\t45000\t2\n23\tZ\n24\tR\t45000\t6\n25\tR\t45000\t0\n26\tW\n27\tR\t45000\t0\n29\tE\t5\taddressing\t7\n",
         ),
         // a store that a protection refuses keeps the rows of its finished lookups
         (
@@ -155,10 +158,10 @@ mod tests {
             "RUN\t1\nD\t10000\t20000\nD\t20000\t45400\nD\t45000\t0\nK\t10\t0\nK\t20\t0\nK\t45\t0\nC\t1\t10000\nM\t1\t2\t0\nT\tF\t0\t0\nW\t20000\t45000\nT\tF\t0\t0\nT\tF\t0\t0\n",
             "10\tE\t11\tpage-translation\t2\n11\tW\n12\tR\t45000\t2\n13\tR\t45000\t0\n",
         ),
-        // a real-space answer is held as any other
+        // real-space answers are held as any other, and displace rows
         (
-            "RUN\t1\nD\t5000\t0\nK\t5\t0\nC\t1\t20\nM\t1\t2\t0\nT\tF\t0\t5000\nT\tF\t0\t5000\nC\t1\t0\nT\tF\t0\t5000\n",
-            "6\tR\t5000\t0\n7\tR\t5000\t0\n9\tE\t5\taddressing\t1\n",
+            "RUN\t1\nD\t10000\t20000\nD\t20000\t45000\nD\t45000\t0\nK\t10\t0\nK\t20\t0\nK\t45\t0\nC\t1\t10000\nM\t1\t2\t0\nT\tF\t0\t0\nT\tF\t0\t0\nC\t1\t20\nT\tF\t0\t1000000\nT\tF\t0\t1001000\nT\tF\t0\t1002000\nT\tF\t0\t1003000\nT\tF\t0\t1004000\nT\tF\t0\t1005000\nT\tF\t0\t1006000\nT\tF\t0\t1007000\nT\tF\t0\t1008000\nT\tF\t0\t1009000\nT\tF\t0\t100a000\nT\tF\t0\t100b000\nT\tF\t0\t100c000\nT\tF\t0\t100d000\nT\tF\t0\t100e000\nT\tF\t0\t100f000\nT\tF\t0\t1010000\nT\tF\t0\t1011000\nT\tF\t0\t1012000\nT\tF\t0\t1013000\nT\tF\t0\t1014000\nT\tF\t0\t1015000\nT\tF\t0\t1016000\nT\tF\t0\t1017000\nT\tF\t0\t1018000\nT\tF\t0\t1019000\nT\tF\t0\t101a000\nT\tF\t0\t101b000\nT\tF\t0\t101c000\nT\tF\t0\t101d000\nT\tF\t0\t101e000\nT\tF\t0\t101f000\nT\tF\t0\t1020000\nT\tF\t0\t1021000\nT\tF\t0\t1022000\nT\tF\t0\t1023000\nT\tF\t0\t1024000\nT\tF\t0\t1025000\nT\tF\t0\t1026000\nT\tF\t0\t1027000\nT\tF\t0\t1028000\nT\tF\t0\t1029000\nT\tF\t0\t102a000\nT\tF\t0\t102b000\nT\tF\t0\t102c000\nT\tF\t0\t102d000\nT\tF\t0\t102e000\nT\tF\t0\t102f000\nT\tF\t0\t1030000\nT\tF\t0\t1031000\nT\tF\t0\t1032000\nT\tF\t0\t1033000\nT\tF\t0\t1034000\nT\tF\t0\t1035000\nT\tF\t0\t1036000\nT\tF\t0\t1037000\nT\tF\t0\t1038000\nT\tF\t0\t1039000\nT\tF\t0\t103a000\nT\tF\t0\t103b000\nT\tF\t0\t103c000\nT\tF\t0\t103d000\nT\tF\t0\t103e000\nT\tF\t0\t103f000\nC\t1\t10000\nT\tF\t0\t0\nT\tF\t0\t0\n",
+            "10\tR\t45000\t2\n11\tR\t45000\t0\n13\tE\t5\taddressing\t0\n14\tE\t5\taddressing\t0\n15\tE\t5\taddressing\t0\n16\tE\t5\taddressing\t0\n17\tE\t5\taddressing\t0\n18\tE\t5\taddressing\t0\n19\tE\t5\taddressing\t0\n20\tE\t5\taddressing\t0\n21\tE\t5\taddressing\t0\n22\tE\t5\taddressing\t0\n23\tE\t5\taddressing\t0\n24\tE\t5\taddressing\t0\n25\tE\t5\taddressing\t0\n26\tE\t5\taddressing\t0\n27\tE\t5\taddressing\t0\n28\tE\t5\taddressing\t0\n29\tE\t5\taddressing\t0\n30\tE\t5\taddressing\t0\n31\tE\t5\taddressing\t0\n32\tE\t5\taddressing\t0\n33\tE\t5\taddressing\t0\n34\tE\t5\taddressing\t0\n35\tE\t5\taddressing\t0\n36\tE\t5\taddressing\t0\n37\tE\t5\taddressing\t0\n38\tE\t5\taddressing\t0\n39\tE\t5\taddressing\t0\n40\tE\t5\taddressing\t0\n41\tE\t5\taddressing\t0\n42\tE\t5\taddressing\t0\n43\tE\t5\taddressing\t0\n44\tE\t5\taddressing\t0\n45\tE\t5\taddressing\t0\n46\tE\t5\taddressing\t0\n47\tE\t5\taddressing\t0\n48\tE\t5\taddressing\t0\n49\tE\t5\taddressing\t0\n50\tE\t5\taddressing\t0\n51\tE\t5\taddressing\t0\n52\tE\t5\taddressing\t0\n53\tE\t5\taddressing\t0\n54\tE\t5\taddressing\t0\n55\tE\t5\taddressing\t0\n56\tE\t5\taddressing\t0\n57\tE\t5\taddressing\t0\n58\tE\t5\taddressing\t0\n59\tE\t5\taddressing\t0\n60\tE\t5\taddressing\t0\n61\tE\t5\taddressing\t0\n62\tE\t5\taddressing\t0\n63\tE\t5\taddressing\t0\n64\tE\t5\taddressing\t0\n65\tE\t5\taddressing\t0\n66\tE\t5\taddressing\t0\n67\tE\t5\taddressing\t0\n68\tE\t5\taddressing\t0\n69\tE\t5\taddressing\t0\n70\tE\t5\taddressing\t0\n71\tE\t5\taddressing\t0\n72\tE\t5\taddressing\t0\n73\tE\t5\taddressing\t0\n74\tE\t5\taddressing\t0\n75\tE\t5\taddressing\t0\n76\tE\t5\taddressing\t0\n78\tR\t45000\t2\n79\tR\t45000\t0\n",
         ),
         // a purge forgets a frame that a store has changed, a load does not
         (
@@ -169,6 +172,26 @@ mod tests {
         (
             "RUN\t1\nD\t10000\t20000\nD\t20000\t45000\nD\t45000\t0\nD\t46000\t0\nK\t10\t0\nK\t20\t0\nK\t45\t0\nK\t46\t0\nC\t1\t10000\nM\t1\t2\t0\nT\tF\t0\t0\nW\t20000\t46000\nX\t1000\nT\tF\t0\t0\nX\t0\nT\tF\t0\t0\n",
             "12\tR\t45000\t2\n13\tW\n14\tE\t202\tbad-prefix\t0\n15\tR\t45000\t0\n17\tR\t46000\t2\n",
+        ),
+        // one to five stores between two purges in mode 1
+        (
+            "RUN\t1\nD\t10000\t20000\nD\t20000\t45000\nD\t45000\t0\nD\t46000\t0\nD\t47000\t0\nD\t48000\t0\nD\t49000\t0\nD\t4a000\t0\nK\t10\t0\nK\t20\t0\nK\t45\t0\nK\t46\t0\nK\t47\t0\nK\t48\t0\nK\t49\t0\nK\t4a\t0\nC\t1\t10000\nM\t1\t2\t0\nT\tF\t0\t0\nW\t20000\t46000\nT\tF\t0\t0\nZ\tT\nT\tF\t0\t0\nT\tF\t0\t0\nW\t20000\t46000\nW\t20000\t47000\nT\tF\t0\t0\nZ\tT\nT\tF\t0\t0\nT\tF\t0\t0\nW\t20000\t46000\nW\t20000\t47000\nW\t20000\t48000\nT\tF\t0\t0\nZ\tT\nT\tF\t0\t0\nT\tF\t0\t0\nW\t20000\t46000\nW\t20000\t47000\nW\t20000\t48000\nW\t20000\t49000\nT\tF\t0\t0\nZ\tT\nT\tF\t0\t0\nT\tF\t0\t0\nW\t20000\t46000\nW\t20000\t47000\nW\t20000\t48000\nW\t20000\t49000\nW\t20000\t4a000\nT\tF\t0\t0\nZ\tT\nT\tF\t0\t0\n",
+            "20\tR\t45000\t2\n21\tW\n22\tR\t45000\t0\n23\tZ\n24\tR\t46000\t2\n25\tR\t46000\t0\n26\tW\n27\tW\n28\tR\t46000\t0\n29\tZ\n30\tR\t47000\t2\n31\tR\t47000\t0\n32\tW\n33\tW\n34\tW\n35\tR\t47000\t0\n36\tZ\n37\tR\t48000\t2\n38\tR\t48000\t0\n39\tW\n40\tW\n41\tW\n42\tW\n43\tR\t48000\t0\n44\tZ\n45\tR\t49000\t2\n46\tR\t49000\t0\n47\tW\n48\tW\n49\tW\n50\tW\n51\tW\n52\tR\t49000\t0\n53\tZ\n54\tR\t4a000\t2\n",
+        ),
+        // one to five stores between two purges in mode 3
+        (
+            "RUN\t1\nD\t10000\t20000\nD\t20000\t45000\nD\t45000\t0\nD\t46000\t0\nD\t47000\t0\nD\t48000\t0\nD\t49000\t0\nD\t4a000\t0\nK\t10\t0\nK\t20\t0\nK\t45\t0\nK\t46\t0\nK\t47\t0\nK\t48\t0\nK\t49\t0\nK\t4a\t0\nC\t7\t10000\nM\t3\t2\t0\nT\tF\t0\t0\nW\t20000\t46000\nT\tF\t0\t0\nZ\tT\nT\tF\t0\t0\nT\tF\t0\t0\nW\t20000\t46000\nW\t20000\t47000\nT\tF\t0\t0\nZ\tT\nT\tF\t0\t0\nT\tF\t0\t0\nW\t20000\t46000\nW\t20000\t47000\nW\t20000\t48000\nT\tF\t0\t0\nZ\tT\nT\tF\t0\t0\nT\tF\t0\t0\nW\t20000\t46000\nW\t20000\t47000\nW\t20000\t48000\nW\t20000\t49000\nT\tF\t0\t0\nZ\tT\nT\tF\t0\t0\nT\tF\t0\t0\nW\t20000\t46000\nW\t20000\t47000\nW\t20000\t48000\nW\t20000\t49000\nW\t20000\t4a000\nT\tF\t0\t0\nZ\tT\nT\tF\t0\t0\n",
+            "20\tR\t45000\t2\n21\tW\n22\tR\t45000\t0\n23\tZ\n24\tR\t46000\t2\n25\tR\t46000\t0\n26\tW\n27\tW\n28\tR\t46000\t0\n29\tZ\n30\tR\t47000\t2\n31\tR\t47000\t0\n32\tW\n33\tW\n34\tW\n35\tR\t47000\t0\n36\tZ\n37\tR\t48000\t2\n38\tR\t48000\t0\n39\tW\n40\tW\n41\tW\n42\tW\n43\tR\t48000\t0\n44\tZ\n45\tR\t49000\t2\n46\tR\t49000\t0\n47\tW\n48\tW\n49\tW\n50\tW\n51\tW\n52\tR\t49000\t0\n53\tZ\n54\tR\t4a000\t2\n",
+        ),
+        // one to five stores between two purges in mode 4
+        (
+            "RUN\t1\nD\t10000\t20000\nD\t20000\t45000\nD\t45000\t0\nD\t46000\t0\nD\t47000\t0\nD\t48000\t0\nD\t49000\t0\nD\t4a000\t0\nK\t10\t0\nK\t20\t0\nK\t45\t0\nK\t46\t0\nK\t47\t0\nK\t48\t0\nK\t49\t0\nK\t4a\t0\nC\td\t10000\nM\t4\t2\t0\nT\tF\t0\t0\nW\t20000\t46000\nT\tF\t0\t0\nZ\tT\nT\tF\t0\t0\nT\tF\t0\t0\nW\t20000\t46000\nW\t20000\t47000\nT\tF\t0\t0\nZ\tT\nT\tF\t0\t0\nT\tF\t0\t0\nW\t20000\t46000\nW\t20000\t47000\nW\t20000\t48000\nT\tF\t0\t0\nZ\tT\nT\tF\t0\t0\nT\tF\t0\t0\nW\t20000\t46000\nW\t20000\t47000\nW\t20000\t48000\nW\t20000\t49000\nT\tF\t0\t0\nZ\tT\nT\tF\t0\t0\nT\tF\t0\t0\nW\t20000\t46000\nW\t20000\t47000\nW\t20000\t48000\nW\t20000\t49000\nW\t20000\t4a000\nT\tF\t0\t0\nZ\tT\nT\tF\t0\t0\n",
+            "20\tR\t45000\t2\n21\tW\n22\tR\t45000\t0\n23\tZ\n24\tR\t46000\t2\n25\tR\t46000\t0\n26\tW\n27\tW\n28\tR\t46000\t0\n29\tZ\n30\tR\t47000\t2\n31\tR\t47000\t0\n32\tW\n33\tW\n34\tW\n35\tR\t47000\t0\n36\tZ\n37\tR\t48000\t2\n38\tR\t48000\t0\n39\tW\n40\tW\n41\tW\n42\tW\n43\tR\t48000\t0\n44\tZ\n45\tR\t49000\t2\n46\tR\t49000\t0\n47\tW\n48\tW\n49\tW\n50\tW\n51\tW\n52\tR\t49000\t0\n53\tZ\n54\tR\t4a000\t2\n",
+        ),
+        // stores between purges in access-register mode
+        (
+            "RUN\t1\nD\t1010\t200000000000\nD\t2020\t0\nD\t2028\t400000000000\nD\t4000\t0\nD\t4008\t10000\nD\t4010\t0\nD\t10000\t20000\nD\t20000\t45000\nD\t45000\t0\nK\t1\t0\nK\t2\t0\nK\t4\t0\nK\t10\t0\nK\t20\t0\nK\t45\t0\nC\t2\t1000\nA\t1\t2\nM\t2\t2\t0\nT\tF\t1\t0\nW\t20000\t45200\nW\t4008\t10000\nT\tS\t1\t0\nZ\tT\nT\tS\t1\t0\nW\t20000\t45000\nW\t2020\t100000000000000\nZ\tA\nT\tF\t1\t0\n",
+            "20\tR\t45000\t8\n21\tW\n22\tW\n23\tR\t45000\t0\n24\tZ\n25\tE\t4P\tpage\t2\n26\tW\n27\tW\n28\tZ\n29\tR\t45000\t6\n",
         ),
     ];
 
