@@ -1,4 +1,11 @@
 // The listing of a run: a line for each call that says something, or the one line of a refused text.
+ghost use Prim.Native.Nat.{_<_};
+ghost use Rattle.lookaside.specs.Rows.{empty-row};
+ghost use Rattle.machine.specs.Law.{start, Lawful};
+ghost use Rattle.std.specs.Results.{Cases};
+ghost use Rattle.storage.specs.Records.{sparse-view};
+ghost use lib.ListN.{length, take, replicate};
+ghost use mathlib.Core.Path.{_≡_};
 use arch::call::Call;
 use arch::condition::Condition;
 use arch::record::BlockKey;
@@ -63,7 +70,10 @@ fn listed(out: &mut String, line: usize, outcome: Outcome) -> fmt::Result {
 // What each source of a listing is: a direct-mapped lookaside over a round-robin one over the walk.
 type Stack = DirectMapped<RoundRobin<TableWalk>>;
 
-fn stack() -> Stack {
+fn stack() -> Stack
+    ensures direct { λ r. ⌜ r .table .rows ≡ replicate 64 empty-row ⌝ }
+    ensures in_turn { λ r. ⌜ (r .beneath .table .rows ≡ replicate 32 empty-row) × (r .beneath .table .next ≡ 0) ⌝ }
+{
     DirectMapped {
         table: DirectMappedTable::new(),
         beneath: RoundRobin {
@@ -79,7 +89,9 @@ fn record(
     keys: &[BlockKey],
     calls: &[Call],
     outcomes: &mut [Outcome],
-) -> Result<(), Condition> {
+) -> Result<(), Condition>
+    ensures { λ r. ⌜ Cases r (λ _. Lawful (start (sparse-view (now (words .entry)) (now (keys .entry)))) (now (calls .entry)) (take (length (now (calls .entry))) (now (outcomes .exit)))) (λ _. length (now (outcomes .entry)) < length (now (calls .entry))) ⌝ }
+{
     let mut storage = Prefixed::new(Sparse { words, keys });
     let mut arts = stack();
     let mut pages = stack();

@@ -27,7 +27,7 @@ use Rattle.machine.specs.declared.perform.Outcome.{Outcome}
 use Rattle.machine.specs.declared.perform.Outcome.the-variants as outcome
 use Rattle.machine.specs.Calls.{load-control, load-access, load-mode, load-result, with-prefix, put-answer, put-under}
 use Rattle.machine.specs.Registers.{Registers}
-use Rattle.machine.specs.Translation.{translation, cut, mode-asks, page-asked, space-by-mode}
+use Rattle.machine.specs.Translation.{translation}
 
 -- the storage as the machine sees it, through its prefix
 abbrev pub real-view : Registers → View → View
