@@ -10,6 +10,9 @@ use arch::call::Call;
 use arch::condition::Condition;
 use arch::record::BlockKey;
 use arch::record::Word;
+use input::CALLS;
+use input::KEYS;
+use input::WORDS;
 use lookaside::direct_mapped::DirectMapped;
 use lookaside::direct_mapped::DirectMappedRows;
 use lookaside::direct_mapped::DirectMappedTable;
@@ -31,13 +34,6 @@ use std::fmt::Write;
 use storage::prefix::Prefixed;
 use storage::sparse::Sparse;
 use storage::sparse::SparseStorage;
-
-// Places for all that a text can say: a call's line has four bytes or more.
-const WORDS: usize = 1024;
-
-const KEYS: usize = 256;
-
-const CALLS: usize = 16384;
 
 // The line of a refusal.
 fn refused(out: &mut String, line: usize, condition: Condition, count: usize) -> fmt::Result {

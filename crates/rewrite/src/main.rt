@@ -1,46 +1,20 @@
 // Writes a run text out again: standard input has it, standard output gets the same bytes, or one
 // line that says why it is refused.
-ghost use Prim.Native.Nat.{_≤_};
-ghost use lib.ListN.{length};
-ghost use Rattle.std.specs.Vec.{made};
 use arch::call::Call;
 use arch::record::BlockKey;
 use arch::record::Word;
+use input::BYTES;
+use input::CALLS;
+use input::KEYS;
+use input::WORDS;
 use runtext::Refusal;
 use runtext::trip::reopened;
 use std::error::AnyError;
 use std::io;
-use std::io::Read;
 use std::io::Write;
 
 #[cfg(test)]
 mod tests;
-
-// One byte more than the longest text: enough to know that it is too long.
-const BYTES: usize = 65537;
-
-// Places for all that a text can say: a call's line has four bytes or more.
-const WORDS: usize = 1024;
-
-const KEYS: usize = 256;
-
-const CALLS: usize = 16384;
-
-// Reads the input, no further than one byte past the longest text.
-fn input(rt: &LibcRuntime, text: &mut [u8]) -> io::Result<usize>
-    ensures { λ r. ⌜ made r (λ n. n ≤ length (now (text .entry))) ⌝ }
-{
-    let mut stdin = rt.stdin();
-    let mut filled = 0;
-    while filled < text.len() {
-        let got = stdin.read(&mut text[filled..])?;
-        if got == 0 {
-            break;
-        }
-        filled += got;
-    }
-    Ok(filled)
-}
 
 // The line of a refusal, as a listing has it.
 fn refused(rt: &LibcRuntime, refusal: Refusal) -> io::Result<()> {
@@ -63,7 +37,7 @@ fn rewrite(rt: &LibcRuntime) -> Result<(), AnyError> {
     }; WORDS]?;
     let mut keys = vec![in heap; BlockKey { block: 0, key: 0 }; KEYS]?;
     let mut calls = vec![in heap; Call::SetPrefix { prefix: 0 }; CALLS]?;
-    let length = input(rt, &mut text)?;
+    let length = input::text(rt, &mut text)?;
     match reopened(
         &text[0..length],
         &mut words,
