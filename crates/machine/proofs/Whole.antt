@@ -2,7 +2,7 @@
 use Prim.Native.Nat.{ℕ, _%_, _^_, _<_, _≤_}
 use native.Mathlib.Nat.{zero-add}
 use mathlib.Core.Path.{_≡_, refl, sym, ap, ap₂, subst, _∙_}
-use mathlib.Core.Bool.{Bool, true, false, cond, not, _&&_}
+use mathlib.Core.Bool.{Bool, true, false, cond, not, _&&_, _||_}
 use mathlib.Core.List.{List, [], _++_, append-nil}
 use lib.Dec.{eqb, ltb}
 use lib.ListN.{length}
@@ -20,7 +20,8 @@ use Rattle.lookup.specs.declared.access.AccessKey.{AccessKey}
 use Rattle.lookup.specs.declared.access.AccessAnswer.{AccessAnswer}
 use Rattle.lookup.specs.declared.page.PageKey.{PageKey}
 use Rattle.lookup.specs.declared.page.PageAnswer.{PageAnswer}
-use Rattle.machine.specs.Calls.{Counts}
+use Rattle.machine.specs.Accesses.{refuses-access}
+use Rattle.machine.specs.Calls.{Counts, refuses-translation}
 use Rattle.machine.specs.Registers.{Registers}
 use Rattle.machine.specs.Translation.{cut, unless, reach, translation}
 
@@ -63,11 +64,19 @@ counts-then {A} {B} {s} {before} {after} {n} {r} k none p =
     onward-list l m (Ok a) k = refl
     onward-list l m (Err c) k = refl
 
--- neither refusal of a fetch or a store applies
-pub passes : {B : Type 0} (register address : ℕ) (s : Seen B) → register ≤ 15 → address % 8 ≡ 0 → then (unless BadNumber (ltb 15 register)) (λ _. then (unless Unaligned (not (eqb (address % 8) 0))) (λ _. s)) ≡ s
-passes register address s small even =
-    ap (λ b. then (unless BadNumber b) (λ _. then (unless Unaligned (not (eqb (address % 8) 0))) (λ _. s))) (le-ltb _ _ small)
-    ∙ ap (λ b. then (unless Unaligned (not b)) (λ _. s)) (eq-eqb _ _ even)
+-- no refusal of a fetch or a store applies
+module _ (register address places : ℕ) (small : register ≤ 15) (even : address % 8 ≡ 0) (room : 12 ≤ places) where
+  pub passes : {B : Type 0} (s : Seen B) → then (unless BadNumber (ltb 15 register)) (λ _. then (unless Unaligned (not (eqb (address % 8) 0))) (λ _. then (unless ShortList (ltb places 12)) (λ _. s))) ≡ s
+  passes s =
+      ap (λ b. then (unless BadNumber b) (λ _. then (unless Unaligned (not (eqb (address % 8) 0))) (λ _. then (unless ShortList (ltb places 12)) (λ _. s)))) (le-ltb _ _ small)
+      ∙ ap (λ b. then (unless Unaligned (not b)) (λ _. then (unless ShortList (ltb places 12)) (λ _. s))) (eq-eqb _ _ even)
+      ∙ ap (λ b. then (unless ShortList b) (λ _. s)) (le-ltb _ _ room)
+
+  pub no-refusal : refuses-access register address places ≡ false
+  no-refusal = ap (λ b. b || (not (eqb (address % 8) 0) || ltb places 12)) (le-ltb _ _ small) ∙ ap (λ b. not b || ltb places 12) (eq-eqb _ _ even) ∙ le-ltb _ _ room
+
+  pub no-refusal-there : refuses-translation register places ≡ false
+  no-refusal-there = ap (λ b. b || ltb places 12) (le-ltb _ _ small) ∙ le-ltb _ _ room
 
 -- the same count of another term for the result
 pub counts-as : {A : Type 0} {s : Seen A} {before after : List ℕ} {r q : Result A Condition} {n : ℕ} → r ≡ q → Counts s before after q n → Counts s before after r n

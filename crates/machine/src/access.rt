@@ -1,14 +1,17 @@
 // Fetch and store: a translation, and then the doubleword.
 ghost use lib.ListN.{length};
+ghost use mathlib.Core.Bool.{cond, true};
 ghost use mathlib.Core.Path.{_≡_};
-ghost use Rattle.arch.specs.declared.call.Access.the-variants.{Store};
+ghost use Rattle.arch.specs.declared.call.Access.the-variants.{Fetch, Store};
 ghost use Rattle.lookup.specs.Access.{access-fits};
 ghost use Rattle.lookup.specs.Lookups.{access-fresh, page-fresh, access-asks, page-asks};
-ghost use Rattle.lookup.specs.Sources.{Kept};
+ghost use Rattle.lookup.specs.Sources.{Kept, Moved};
 ghost use Rattle.lookup.specs.Spelling.{page-fits};
-ghost use Rattle.machine.specs.Accesses.{value-there, accessing, fetching, storing, stored-at};
+ghost use Rattle.machine.specs.Accesses.{value-there, accessing, fetching, storing, stored-at, refuses-access};
 ghost use Rattle.machine.specs.Calls.{Counts};
 ghost use Rattle.machine.specs.Registers.{registers};
+ghost use Rattle.machine.specs.Translation.{cut as cutting, mode-asks, page-asked, space-by-mode};
+ghost use Rattle.std.specs.declared.option.Option.the-variants.{None};
 ghost use Rattle.storage.specs.Prefixes.{prefixed};
 use crate::machine::Counted;
 use crate::registers::Machine;
@@ -46,6 +49,9 @@ impl Machine {
         ensures storage { λ _. ⌜ now (storage .exit) .beneath ≡ now (storage .entry) .beneath ⌝ }
         ensures arts { λ _. ⌜ Kept access-fits (access-fresh (prefixed (now (self .entry) .prefix) (S·Storage .view (now (storage .entry) .beneath)) .word)) (A·Source .holds (now (arts .entry))) (A·Source .holds (now (arts .exit))) ⌝ }
         ensures pages { λ _. ⌜ Kept page-fits (page-fresh (prefixed (now (self .entry) .prefix) (S·Storage .view (now (storage .entry) .beneath)) .word)) (P·Source .holds (now (pages .entry))) (P·Source .holds (now (pages .exit))) ⌝ }
+        ensures arts_moved { λ _. ⌜ Moved (cond (refuses-access register address (length (now (list .entry)))) None (mode-asks (now (self .entry) .mode) (registers (now (self .entry))) register)) (A·Source .moves (now (arts .entry)) (access-fresh (prefixed (now (self .entry) .prefix) (S·Storage .view (now (storage .entry) .beneath)) .word))) (now (arts .entry)) (now (arts .exit)) ⌝ }
+        ensures pages_moved { λ _. ⌜ Moved (cond (refuses-access register address (length (now (list .entry)))) None (page-asked (registers (now (self .entry))) Fetch (cutting (now (self .entry) .size) address) (space-by-mode (now (self .entry) .mode) (registers (now (self .entry))) (access-asks (A·Source .shows (now (arts .entry))) (prefixed (now (self .entry) .prefix) (S·Storage .view (now (storage .entry) .beneath)) .word)) register .result))) (P·Source .moves (now (pages .entry)) (page-fresh (prefixed (now (self .entry) .prefix) (S·Storage .view (now (storage .entry) .beneath)) .word))) (now (pages .entry)) (now (pages .exit)) ⌝ }
+        ensures refused { λ _. ⌜ ((refuses-access register address (length (now (list .entry)))) ≡ true → now (storage .exit) ≡ now (storage .entry)) ⌝ }
     {
         if register > 15 {
             return Counted {
@@ -56,6 +62,12 @@ impl Machine {
         if address % 8 != 0 {
             return Counted {
                 result: Err(Condition::Unaligned),
+                count: 0,
+            };
+        }
+        if list.len() < 12 {
+            return Counted {
+                result: Err(Condition::ShortList),
                 count: 0,
             };
         }
@@ -89,6 +101,9 @@ impl Machine {
         ensures storage { λ _. ⌜ S·Storage .view (now (storage .exit) .beneath) ≡ stored-at (now (self .entry) .prefix) (S·Storage .view (now (storage .entry) .beneath)) value (accessing (registers (now (self .entry))) (access-asks (A·Source .shows (now (arts .entry))) (prefixed (now (self .entry) .prefix) (S·Storage .view (now (storage .entry) .beneath)) .word)) (page-asks (P·Source .shows (now (pages .entry))) (prefixed (now (self .entry) .prefix) (S·Storage .view (now (storage .entry) .beneath)) .word)) (prefixed (now (self .entry) .prefix) (S·Storage .view (now (storage .entry) .beneath))) register address (length (now (list .entry))) Store .result) ⌝ }
         ensures arts { λ _. ⌜ Kept access-fits (access-fresh (prefixed (now (self .entry) .prefix) (S·Storage .view (now (storage .entry) .beneath)) .word)) (A·Source .holds (now (arts .entry))) (A·Source .holds (now (arts .exit))) ⌝ }
         ensures pages { λ _. ⌜ Kept page-fits (page-fresh (prefixed (now (self .entry) .prefix) (S·Storage .view (now (storage .entry) .beneath)) .word)) (P·Source .holds (now (pages .entry))) (P·Source .holds (now (pages .exit))) ⌝ }
+        ensures arts_moved { λ _. ⌜ Moved (cond (refuses-access register address (length (now (list .entry)))) None (mode-asks (now (self .entry) .mode) (registers (now (self .entry))) register)) (A·Source .moves (now (arts .entry)) (access-fresh (prefixed (now (self .entry) .prefix) (S·Storage .view (now (storage .entry) .beneath)) .word))) (now (arts .entry)) (now (arts .exit)) ⌝ }
+        ensures pages_moved { λ _. ⌜ Moved (cond (refuses-access register address (length (now (list .entry)))) None (page-asked (registers (now (self .entry))) Store (cutting (now (self .entry) .size) address) (space-by-mode (now (self .entry) .mode) (registers (now (self .entry))) (access-asks (A·Source .shows (now (arts .entry))) (prefixed (now (self .entry) .prefix) (S·Storage .view (now (storage .entry) .beneath)) .word)) register .result))) (P·Source .moves (now (pages .entry)) (page-fresh (prefixed (now (self .entry) .prefix) (S·Storage .view (now (storage .entry) .beneath)) .word))) (now (pages .entry)) (now (pages .exit)) ⌝ }
+        ensures refused { λ _. ⌜ ((refuses-access register address (length (now (list .entry)))) ≡ true → now (storage .exit) ≡ now (storage .entry)) ⌝ }
     {
         if register > 15 {
             return Counted {
@@ -99,6 +114,12 @@ impl Machine {
         if address % 8 != 0 {
             return Counted {
                 result: Err(Condition::Unaligned),
+                count: 0,
+            };
+        }
+        if list.len() < 12 {
+            return Counted {
+                result: Err(Condition::ShortList),
                 count: 0,
             };
         }
