@@ -24,44 +24,18 @@ use lookup::kinds::AccessRegisterKind;
 use lookup::kinds::PagingKind;
 use lookup::source::TableWalk;
 use lookup::source::TableWalkSource;
-use machine::Counted;
 use machine::Outcome;
+use print::print_outcomes;
+use print::print_refusal;
 use runtext::Counts;
 use std::alloc::AllocError;
 use std::alloc::Global;
 use std::fmt;
-use std::fmt::Write;
 use storage::prefix::Prefixed;
 use storage::sparse::Sparse;
 use storage::sparse::SparseStorage;
 
-// The line of a refusal.
-fn refused(out: &mut String, line: usize, condition: Condition, count: usize) -> fmt::Result {
-    let code = condition.code();
-    let name = condition.name();
-    writeln!(out, "{line}\tE\t{code}\t{name}\t{count}")
-}
-
-// The line of a translation.
-fn translated(out: &mut String, line: usize, outcome: Counted<u64>) -> fmt::Result {
-    let count = outcome.count;
-    match outcome.result {
-        Ok(real) => writeln!(out, "{line}\tR\t{real:x}\t{count}"),
-        Err(condition) => refused(out, line, condition, count),
-    }
-}
-
-// What a listing says of one call.
-fn listed(out: &mut String, line: usize, outcome: Outcome) -> fmt::Result {
-    match outcome {
-        Outcome::Loaded(Ok(())) => Ok(()),
-        Outcome::Loaded(Err(condition)) => refused(out, line, condition, 0),
-        Outcome::Translated(counted) => translated(out, line, counted),
-        Outcome::Put(Ok(())) => writeln!(out, "{line}\tW"),
-        Outcome::Put(Err(condition)) => refused(out, line, condition, 0),
-        Outcome::Purged => writeln!(out, "{line}\tZ"),
-    }
-}
+pub mod print;
 
 // What each source of a listing is: a direct-mapped lookaside over a round-robin one over the walk.
 type Stack = DirectMapped<RoundRobin<TableWalk>>;
@@ -94,14 +68,6 @@ fn record(
     machine::run(&mut storage, &mut arts, &mut pages, calls, outcomes)
 }
 
-// A line for each call that says something, the first of which stands on `line`.
-fn printed(out: &mut String, line: usize, outcomes: &[Outcome]) -> fmt::Result {
-    for (i, outcome) in outcomes.iter().enumerate() {
-        listed(out, line.saturating_add(i), *outcome)?;
-    }
-    Ok(())
-}
-
 // Want of memory is the only way for a listing to fail.
 fn stored(written: fmt::Result) -> Result<(), AllocError> {
     match written {
@@ -129,11 +95,11 @@ pub fn list(heap: Global, text: &[u8]) -> Result<String, AllocError> {
             let mut outcomes = vec![in heap; Outcome::Purged; c]?;
             let line = w.saturating_add(k).saturating_add(2);
             match record(&mut words[0..w], &keys[0..k], &calls[0..c], &mut outcomes) {
-                Ok(()) => stored(printed(&mut out, line, &outcomes))?,
-                Err(condition) => stored(refused(&mut out, 1, condition, 0))?,
+                Ok(()) => stored(print_outcomes(&mut out, line, &outcomes))?,
+                Err(condition) => stored(print_refusal(&mut out, 1, condition, 0))?,
             }
         }
-        Err(refusal) => stored(refused(&mut out, refusal.line, refusal.condition, 0))?,
+        Err(refusal) => stored(print_refusal(&mut out, refusal.line, refusal.condition, 0))?,
     }
     Ok(out)
 }
