@@ -9,6 +9,12 @@ mod accesses;
 #[cfg(test)]
 mod tests {
     use super::*;
+    use lookaside::direct_mapped::DirectMappedRows;
+    use lookaside::lookaside::LookasideSource;
+    use lookaside::round_robin::RoundRobinRows;
+    use lookup::kinds::AccessRegisterKind;
+    use lookup::kinds::PagingKind;
+    use lookup::source::TableWalkSource;
     use std::alloc::AllocError;
     use std::alloc::Global;
     use std::test::*;
@@ -195,10 +201,17 @@ mod tests {
         ),
     ];
 
+    // The listing of a text with the sources of `listrun`.
+    fn listed(heap: Global, text: &str) -> Result<String, AllocError> {
+        let mut arts = listing::stack();
+        let mut pages = listing::stack();
+        listing::list(heap, text.as_bytes(), &mut arts, &mut pages)
+    }
+
     fn lists_as_written(rt: &LibcRuntime, cases: &[Case]) -> Result<(), Fail> {
         for case in cases.iter() {
             let text = case.0;
-            let listing = listing::list(rt.alloc(), text.as_bytes())?;
+            let listing = listed(rt.alloc(), text)?;
             check_eq(listing.as_str(), case.1).note(text)?;
         }
         Ok(())
@@ -225,7 +238,7 @@ mod tests {
         ];
         for case in cases.iter() {
             let text = repeated(rt.alloc(), case.0, case.1)?;
-            let listing = listing::list(rt.alloc(), text.as_bytes())?;
+            let listing = listed(rt.alloc(), text.as_str())?;
             check_eq(listing.as_str(), case.2).note(case.0)?;
         }
         Ok(())

@@ -1,33 +1,38 @@
 // The listing of a run: a line for each call that says something, or the one line of a refused text.
-ghost use Prim.Native.Nat.{_<_};
+ghost use Prim.Native.Nat.{_+_, _^_, _<_, _≤_};
+ghost use Rattle.lines.specs.Refusals.{refusal-line};
+ghost use Rattle.listing.specs.Listings.{places, Recorded, Lists-run, Lists};
 ghost use Rattle.lookaside.specs.Rows.{empty-row};
-ghost use Rattle.machine.specs.Law.{start, Lawful};
-ghost use Rattle.std.specs.Results.{Cases};
-ghost use Rattle.storage.specs.Records.{sparse-view};
-ghost use lib.ListN.{length, take, replicate};
+ghost use Rattle.runtext.specs.Runs.{lent};
+ghost use Rattle.runtext.specs.Writing.{run-of};
+ghost use Rattle.std.specs.Of.String.{string-bytes};
+ghost use Rattle.std.specs.Of.Vec.{vec-items};
+ghost use Rattle.std.specs.Results.{isOk};
+ghost use Rattle.std.specs.Vec.{made};
+ghost use lib.ListN.{length, replicate};
 ghost use mathlib.Core.Path.{_≡_};
 use arch::call::Call;
-use arch::condition::Condition;
 use arch::record::BlockKey;
 use arch::record::Word;
 use input::CALLS;
 use input::KEYS;
 use input::WORDS;
+use lines::RefusalLine;
+use lines::RefusalLineDisplay;
 use lookaside::direct_mapped::DirectMapped;
-use lookaside::direct_mapped::DirectMappedRows;
 use lookaside::direct_mapped::DirectMappedTable;
-use lookaside::lookaside::LookasideSource;
 use lookaside::round_robin::RoundRobin;
-use lookaside::round_robin::RoundRobinRows;
 use lookaside::round_robin::RoundRobinTable;
+use lookup::kinds::AccessRegister;
 use lookup::kinds::AccessRegisterKind;
+use lookup::kinds::Paging;
 use lookup::kinds::PagingKind;
+use lookup::source::Source;
 use lookup::source::TableWalk;
-use lookup::source::TableWalkSource;
 use machine::Outcome;
 use print::print_outcomes;
-use print::print_refusal;
 use runtext::Counts;
+use runtext::Refusal;
 use std::alloc::AllocError;
 use std::alloc::Global;
 use std::fmt;
@@ -37,10 +42,11 @@ use storage::sparse::SparseStorage;
 
 pub mod print;
 
-// What each source of a listing is: a direct-mapped lookaside over a round-robin one over the walk.
-type Stack = DirectMapped<RoundRobin<TableWalk>>;
+// What each source of the program `listrun` is: a direct-mapped lookaside over a round-robin one over
+// the walk.
+pub type Stack = DirectMapped<RoundRobin<TableWalk>>;
 
-fn stack() -> Stack
+pub fn stack() -> Stack
     ensures direct { λ r. ⌜ r .table .rows ≡ replicate 64 empty-row ⌝ }
     ensures in_turn { λ r. ⌜ (r .beneath .table .rows ≡ replicate 32 empty-row) × (r .beneath .table .next ≡ 0) ⌝ }
 {
@@ -54,52 +60,116 @@ fn stack() -> Stack
 }
 
 // Makes the calls of a run over its storage, and keeps the record of what came of each.
-fn record(
+fn record<A: Source<AccessRegister>, P: Source<Paging>>(
+    heap: Global,
     words: &mut [Word],
     keys: &[BlockKey],
     calls: &[Call],
-    outcomes: &mut [Outcome],
-) -> Result<(), Condition>
-    ensures { λ r. ⌜ Cases r (λ _. Lawful (start (sparse-view (now (words .entry)) (now (keys .entry)))) (now (calls .entry)) (take (length (now (calls .entry))) (now (outcomes .exit)))) (λ _. length (now (outcomes .entry)) < length (now (calls .entry))) ⌝ }
+    arts: &mut A,
+    pages: &mut P,
+) -> Result<Vec<Outcome>, AllocError>
+    ensures { λ r. ⌜ made r (λ os. Recorded (run-of (now (words .entry)) (now (keys .entry)) (now (calls .entry))) (vec-items os)) ⌝ }
 {
+    let mut outcomes = vec![in heap; Outcome::Purged; calls.len()]?;
     let mut storage = Prefixed::new(Sparse { words, keys });
-    let mut arts = stack();
-    let mut pages = stack();
-    machine::run(&mut storage, &mut arts, &mut pages, calls, outcomes)
+    match machine::run(&mut storage, arts, pages, calls, &mut outcomes) {
+        Ok(()) => Ok(outcomes),
+        // there is a place for each outcome
+        Err(_) => unreachable(),
+    }
 }
 
 // Want of memory is the only way for a listing to fail.
-fn stored(written: fmt::Result) -> Result<(), AllocError> {
+fn stored(written: fmt::Result) -> Result<(), AllocError>
+    ensures { λ r. ⌜ isOk r ≡ isOk written ⌝ }
+{
     match written {
         Ok(()) => Ok(()),
         Err(_) => Err(AllocError),
     }
 }
 
-// The listing of a run text.
-pub fn list(heap: Global, text: &[u8]) -> Result<String, AllocError> {
-    let mut words = vec![in heap; Word {
-        address: 0,
-        value: 0
-    }; WORDS]?;
-    let mut keys = vec![in heap; BlockKey { block: 0, key: 0 }; KEYS]?;
-    let mut calls = vec![in heap; Call::SetPrefix { prefix: 0 }; CALLS]?;
+// The listing of a run.
+fn list_run<A: Source<AccessRegister>, P: Source<Paging>>(
+    heap: Global,
+    words: &mut [Word],
+    keys: &[BlockKey],
+    calls: &[Call],
+    arts: &mut A,
+    pages: &mut P,
+) -> Result<String, AllocError>
+    requires { ⌜ length (now words) + length (now keys) + 2 + length (now calls) < 2 ^ 64 ⌝ }
+    ensures { λ r. ⌜ made r (λ out. Lists-run (run-of (now (words .entry)) (now (keys .entry)) (now (calls .entry))) (string-bytes out)) ⌝ }
+{
+    let line = words.len() + keys.len() + 2;
+    let outcomes = record(heap, words, keys, calls, arts, pages)?;
     let mut out = String::new(heap);
-    match runtext::read(text, &mut words, &mut keys, &mut calls) {
+    stored(print_outcomes(&mut out, line, &outcomes))?;
+    Ok(out)
+}
+
+// The listing of a refused text.
+fn list_refusal(heap: Global, refusal: Refusal) -> Result<String, AllocError>
+    ensures { λ r. ⌜ made r (λ out. string-bytes out ≡ refusal-line (refusal .line) (refusal .condition) 0) ⌝ }
+{
+    let Refusal { condition, line } = refusal;
+    String::format(
+        heap,
+        RefusalLine {
+            line,
+            condition,
+            count: 0,
+        },
+    )
+}
+
+// The listing of a text, given places for all that it says.
+fn list_within<A: Source<AccessRegister>, P: Source<Paging>>(
+    heap: Global,
+    text: &[u8],
+    words: &mut [Word],
+    keys: &mut [BlockKey],
+    calls: &mut [Call],
+    arts: &mut A,
+    pages: &mut P,
+) -> Result<String, AllocError>
+    requires { ⌜ length (now calls) ≤ 16384 ⌝ }
+    ensures { λ r. ⌜ made r (λ out. Lists (lent (now (words .entry)) (now (keys .entry)) (now (calls .entry))) (now (text .entry)) (string-bytes out)) ⌝ }
+{
+    match runtext::read(text, words, keys, calls) {
         Ok(n) => {
             let Counts {
                 words: w,
                 keys: k,
                 calls: c,
             } = n;
-            let mut outcomes = vec![in heap; Outcome::Purged; c]?;
-            let line = w.saturating_add(k).saturating_add(2);
-            match record(&mut words[0..w], &keys[0..k], &calls[0..c], &mut outcomes) {
-                Ok(()) => stored(print_outcomes(&mut out, line, &outcomes))?,
-                Err(condition) => stored(print_refusal(&mut out, 1, condition, 0))?,
-            }
+            list_run(
+                heap,
+                &mut words[0..w],
+                &keys[0..k],
+                &calls[0..c],
+                arts,
+                pages,
+            )
         }
-        Err(refusal) => stored(print_refusal(&mut out, refusal.line, refusal.condition, 0))?,
+        Err(refusal) => list_refusal(heap, refusal),
     }
-    Ok(out)
+}
+
+// The listing of a run text, over any two sources: of the run that it spells, or of its refusal.
+pub fn list<A: Source<AccessRegister>, P: Source<Paging>>(
+    heap: Global,
+    text: &[u8],
+    arts: &mut A,
+    pages: &mut P,
+) -> Result<String, AllocError>
+    ensures { λ r. ⌜ made r (λ out. Lists places (now (text .entry)) (string-bytes out)) ⌝ }
+{
+    let mut words = vec![in heap; Word {
+        address: 0,
+        value: 0
+    }; WORDS]?;
+    let mut keys = vec![in heap; BlockKey { block: 0, key: 0 }; KEYS]?;
+    let mut calls = vec![in heap; Call::SetPrefix { prefix: 0 }; CALLS]?;
+    list_within(heap, text, &mut words, &mut keys, &mut calls, arts, pages)
 }

@@ -17,12 +17,7 @@ use machine::Outcome;
 use std::fmt;
 
 // The line of a refusal.
-pub fn print_refusal(
-    out: &mut String,
-    line: usize,
-    condition: Condition,
-    count: usize,
-) -> fmt::Result
+fn print_refusal(out: &mut String, line: usize, condition: Condition, count: usize) -> fmt::Result
     ensures { λ r. ⌜ made r (λ _. string-bytes (now (out .exit)) ≡ string-bytes (now (out .entry)) ++ refusal-line line condition count) ⌝ }
 {
     out.write(RefusalLine {

@@ -1,0 +1,25 @@
+use mathlib.Core.Path.{_≡_, subst, _∙_}
+use borrow.Author.Needs.{needs}
+use lib.ListN.{length}
+use Rattle.runtext.specs.declared.Counts.{Counts}
+use Rattle.runtext.specs.Runs.{lent}
+use Rattle.std.proofs.shelf.Results.{made-from-err}
+use Rattle.std.specs.Of.String.{string-bytes}
+use Rattle.std.specs.Vec.{made}
+use Rattle.listing.specs.Listings.{places, Lists}
+use Rattle.listing.proofs.list.Needs as need
+
+pub returns-in-Break-keys : need.returns-in-Break-keys
+returns-in-Break-keys g c = search (needs, made-from-err)
+
+pub returns-in-Break-calls : need.returns-in-Break-calls
+returns-in-Break-calls g c = search (needs, made-from-err)
+
+-- the places that are lent are as many as the definition says
+pub returns : need.returns
+returns g c =
+    let words : length (c .deref-mut .result .now) ≡ 1024 = c .deref-mut .ensures .len ∙ c .in-Continue-words .ensures tt .made .1 in
+    let keys : length (c .deref-mut-2 .result .now) ≡ 256 = c .deref-mut-2 .ensures .len ∙ c .in-Continue-keys .ensures tt .made .1 in
+    let calls : length (c .deref-mut-3 .result .now) ≡ 16384 = c .deref-mut-3 .ensures .len ∙ c .in-Continue-calls .ensures tt .made .1 in
+    let all : lent (c .deref-mut .result .now) (c .deref-mut-2 .result .now) (c .deref-mut-3 .result .now) ≡ places = λ i. record { words = words i; keys = keys i; calls = calls i } in
+    subst (λ p. made (c .list-within .result) (λ out. Lists p (c .args .text .now) (string-bytes out))) all (c .list-within .ensures)
