@@ -6,6 +6,7 @@ ghost use Rattle.runtext.specs.Numerals.{hexit, numeral};
 ghost use Rattle.std.specs.Written.{Prints};
 ghost use Rattle.std.specs.declared.option.Option.the-variants.{Some};
 use arch::condition::Condition;
+use runtext::Refusal;
 use std::fmt;
 use std::fmt::Display;
 use std::fmt::Formatter;
@@ -49,6 +50,19 @@ pub struct RefusalLine {
     pub line: usize,
     pub condition: Condition,
     pub count: usize,
+}
+
+impl RefusalLine {
+    // The line of a refused text, of which no call is made.
+    pub fn of_text(refusal: Refusal) -> RefusalLine
+        ensures { λ r. ⌜ r ≡ record { line = refusal .line; condition = refusal .condition; count = 0 } ⌝ }
+    {
+        RefusalLine {
+            line: refusal.line,
+            condition: refusal.condition,
+            count: 0,
+        }
+    }
 }
 
 pub impl Display for RefusalLine as RefusalLineDisplay {

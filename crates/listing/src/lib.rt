@@ -112,15 +112,7 @@ fn list_run<A: Source<AccessRegister>, P: Source<Paging>>(
 fn list_refusal(heap: Global, refusal: Refusal) -> Result<String, AllocError>
     ensures { λ r. ⌜ made r (λ out. string-bytes out ≡ refusal-line (refusal .line) (refusal .condition) 0) ⌝ }
 {
-    let Refusal { condition, line } = refusal;
-    String::format(
-        heap,
-        RefusalLine {
-            line,
-            condition,
-            count: 0,
-        },
-    )
+    String::format(heap, RefusalLine::of_text(refusal))
 }
 
 // The listing of a text, given places for all that it says.

@@ -1,5 +1,5 @@
 // Writes a run text out again: standard input has it, standard output gets the same bytes, or one
-// line that says why it is refused.
+// line that says why it is refused, as in a listing.
 use arch::call::Call;
 use arch::record::BlockKey;
 use arch::record::Word;
@@ -7,25 +7,14 @@ use input::BYTES;
 use input::CALLS;
 use input::KEYS;
 use input::WORDS;
-use runtext::Refusal;
+use lines::RefusalLine;
+use lines::RefusalLineDisplay;
 use runtext::trip::reopened;
 use std::error::AnyError;
-use std::io;
 use std::io::Write;
 
 #[cfg(test)]
 mod tests;
-
-// The line of a refusal, as a listing has it.
-fn refused(rt: &LibcRuntime, refusal: Refusal) -> io::Result<()> {
-    let Refusal { condition, line } = refusal;
-    println!(
-        rt,
-        "{line}\tE\t{}\t{}\t0",
-        condition.code(),
-        condition.name()
-    )
-}
 
 fn rewrite(rt: &LibcRuntime) -> Result<(), AnyError> {
     let heap = rt.alloc();
@@ -49,7 +38,7 @@ fn rewrite(rt: &LibcRuntime) -> Result<(), AnyError> {
             let mut out = rt.stdout();
             out.write_all(&copy[0..n])?;
         }
-        Err(refusal) => refused(rt, refusal)?,
+        Err(refusal) => rt.print(RefusalLine::of_text(refusal))?,
     }
     Ok(())
 }
