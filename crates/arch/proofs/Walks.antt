@@ -95,3 +95,36 @@ over-local limit word (reads at next) other agree =
     reading-local at (ltb at limit) (word at) (other at) (λ v. over limit word (next v)) (λ v. over limit other (next v))
     (λ low. first-agrees word other at (λ v. over limit word (next v)) (ltb at limit) (word at) low agree)
     (λ v here low. over-local limit word (next v) other (rest-agrees word other at (λ v. over limit word (next v)) (ltb at limit) (word at) v low here agree))
+
+-- the lengths of lists, of one step after the other and of a read
+pub few-onward : {A B : Type 0} (m n : ℕ) (l : List ℕ) (r : Result A Condition) (k : A → Seen B) → length l ≤ m → ((a : A) → length (k a .list) ≤ n) → length (onward l r k .list) ≤ m + n
+few-onward m n l (Ok a) k short rest = let h = rest a in simp length-append (omega arith)
+few-onward m n l (Err c) k short rest = omega arith
+
+few-reading : {A : Type 0} (n at : ℕ) (t : Bool) (o : Option ℕ) (next : ℕ → Seen A) → ((v : ℕ) → length (next v .list) ≤ n) → length (reading at t o next .list) ≤ 1 + n
+few-reading n at false o next rest = omega arith
+few-reading n at true None next rest = omega arith
+few-reading n at true (Some v) next rest = let h = rest v in omega arith
+
+-- a walk lists at most so many addresses, over any storage
+pub record Few {A : Type 0} (limit : ℕ) (n : ℕ) (w : Walk A) : Type 0 where
+  pub few : (word : ℕ → Option ℕ) → length (over limit word w .list) ≤ n
+
+module _ {limit : ℕ} where
+  pub few-answer : {A : Type 0} {a : A} → Few limit 0 (answers a)
+  few-answer = record { few = λ word. omega arith }
+
+  pub few-last-check : (c : Condition) (t : Bool) → Few limit 0 (check c t)
+  few-last-check c true = record { few = λ word. omega arith }
+  few-last-check c false = record { few = λ word. omega arith }
+
+  pub few-check : {B : Type 0} {n : ℕ} {w : Walk B} (c : Condition) (t : Bool) → Few limit n w → Few limit n (check c t >>= (λ _. w))
+  few-check c true rest = record { few = λ word. omega arith }
+  few-check c false rest = rest
+
+  pub few-read : {B : Type 0} {n : ℕ} (at : ℕ) (k : ℕ → Walk B) → ((v : ℕ) → Few limit n (k v)) → Few limit (1 + n) (reads at k)
+  few-read {B} {n} at k rest = record { few = λ word. few-reading n at (ltb at limit) (word at) (λ v. over limit word (k v)) (λ v. rest v .few word) }
+
+  pub few-then : {A B : Type 0} {m n : ℕ} {w : Walk A} {k : A → Walk B} → Few limit m w → ((a : A) → Few limit n (k a)) → Few limit (m + n) (w >>= k)
+  few-then {A} {B} {m} {n} {w} {k} first rest =
+      record { few = λ word. subst (λ s. length (s .list) ≤ m + n) (sym (over-then limit word w k)) (few-onward m n (over limit word w .list) (over limit word w .result) (λ a. over limit word (k a)) (first .few word) (λ a. rest a .few word)) }

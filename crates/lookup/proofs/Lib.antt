@@ -1,3 +1,4 @@
 pub mod Checked
 pub mod Levels
 pub mod InOrder
+pub mod Few
