@@ -10,7 +10,9 @@ ghost use Rattle.std.specs.Of.Vec.{vec-items};
 ghost use Rattle.std.specs.Results.{isOk};
 ghost use Rattle.std.specs.Vec.{made};
 ghost use lib.ListN.{length, replicate};
+ghost use mathlib.Core.List.{map};
 ghost use mathlib.Core.Path.{_≡_};
+ghost use Rattle.machine.specs.declared.request.Request.the-variants.{Line};
 use arch::call::Call;
 use arch::record::BlockKey;
 use arch::record::Word;
@@ -30,6 +32,7 @@ use lookup::kinds::PagingKind;
 use lookup::source::Source;
 use lookup::source::TableWalk;
 use machine::Outcome;
+use machine::Request;
 use print::print_outcomes;
 use runtext::Counts;
 use runtext::Refusal;
@@ -40,7 +43,7 @@ use storage::prefix::Prefixed;
 use storage::sparse::Sparse;
 use storage::sparse::SparseStorage;
 
-pub mod print;
+mod print;
 
 // What each source of the program `listrun` is: a direct-mapped lookaside over a round-robin one over
 // the walk.
@@ -59,6 +62,17 @@ pub fn stack() -> Stack
     }
 }
 
+// The calls of a text's lines, as calls of the machine.
+fn requests(heap: Global, calls: &[Call]) -> Result<Vec<Request>, AllocError>
+    ensures { λ r. ⌜ made r (λ v. vec-items v ≡ map Line (now (calls .entry))) ⌝ }
+{
+    let mut requests = Vec::new(heap);
+    for call in calls {
+        requests.push(Request::Line(*call))?;
+    }
+    Ok(requests)
+}
+
 // Makes the calls of a run over its storage, and keeps the record of what came of each.
 fn record<A: Source<AccessRegister>, P: Source<Paging>>(
     heap: Global,
@@ -68,11 +82,12 @@ fn record<A: Source<AccessRegister>, P: Source<Paging>>(
     arts: &mut A,
     pages: &mut P,
 ) -> Result<Vec<Outcome>, AllocError>
-    ensures { λ r. ⌜ made r (λ os. Recorded (run-of (now (words .entry)) (now (keys .entry)) (now (calls .entry))) (vec-items os)) ⌝ }
+    ensures { λ r. ⌜ made r (λ os. Recorded (A·Source .shows) (A·Source .moves) (A·Source .clears) (P·Source .shows) (P·Source .moves) (P·Source .clears) (run-of (now (words .entry)) (now (keys .entry)) (now (calls .entry))) (vec-items os) (now (arts .entry)) (now (pages .entry)) (now (arts .exit)) (now (pages .exit))) ⌝ }
 {
+    let requests = requests(heap, calls)?;
     let mut outcomes = vec![in heap; Outcome::Purged; calls.len()]?;
     let mut storage = Prefixed::new(Sparse { words, keys });
-    match machine::run(&mut storage, arts, pages, calls, &mut outcomes) {
+    match runs::run(&mut storage, arts, pages, &requests, &mut outcomes) {
         Ok(()) => Ok(outcomes),
         // there is a place for each outcome
         Err(_) => unreachable(),
@@ -99,7 +114,7 @@ fn list_run<A: Source<AccessRegister>, P: Source<Paging>>(
     pages: &mut P,
 ) -> Result<String, AllocError>
     requires { ⌜ length (now words) + length (now keys) + 2 + length (now calls) < 2 ^ 64 ⌝ }
-    ensures { λ r. ⌜ made r (λ out. Lists-run (run-of (now (words .entry)) (now (keys .entry)) (now (calls .entry))) (string-bytes out)) ⌝ }
+    ensures { λ r. ⌜ made r (λ out. Lists-run (A·Source .shows) (A·Source .moves) (A·Source .clears) (P·Source .shows) (P·Source .moves) (P·Source .clears) (run-of (now (words .entry)) (now (keys .entry)) (now (calls .entry))) (string-bytes out) (now (arts .entry)) (now (pages .entry)) (now (arts .exit)) (now (pages .exit))) ⌝ }
 {
     let line = words.len() + keys.len() + 2;
     let outcomes = record(heap, words, keys, calls, arts, pages)?;
@@ -126,7 +141,7 @@ fn list_within<A: Source<AccessRegister>, P: Source<Paging>>(
     pages: &mut P,
 ) -> Result<String, AllocError>
     requires { ⌜ length (now calls) ≤ 16384 ⌝ }
-    ensures { λ r. ⌜ made r (λ out. Lists (lent (now (words .entry)) (now (keys .entry)) (now (calls .entry))) (now (text .entry)) (string-bytes out)) ⌝ }
+    ensures { λ r. ⌜ made r (λ out. Lists (A·Source .shows) (A·Source .moves) (A·Source .clears) (P·Source .shows) (P·Source .moves) (P·Source .clears) (lent (now (words .entry)) (now (keys .entry)) (now (calls .entry))) (now (text .entry)) (string-bytes out) (now (arts .entry)) (now (pages .entry)) (now (arts .exit)) (now (pages .exit))) ⌝ }
 {
     match runtext::read(text, words, keys, calls) {
         Ok(n) => {
@@ -155,7 +170,7 @@ pub fn list<A: Source<AccessRegister>, P: Source<Paging>>(
     arts: &mut A,
     pages: &mut P,
 ) -> Result<String, AllocError>
-    ensures { λ r. ⌜ made r (λ out. Lists places (now (text .entry)) (string-bytes out)) ⌝ }
+    ensures { λ r. ⌜ made r (λ out. Lists (A·Source .shows) (A·Source .moves) (A·Source .clears) (P·Source .shows) (P·Source .moves) (P·Source .clears) places (now (text .entry)) (string-bytes out) (now (arts .entry)) (now (pages .entry)) (now (arts .exit)) (now (pages .exit))) ⌝ }
 {
     let mut words = vec![in heap; Word {
         address: 0,

@@ -42,7 +42,7 @@ fn print_translation(out: &mut String, line: usize, outcome: Counted<u64>) -> fm
 }
 
 // What a listing says of one call.
-pub fn print_outcome(out: &mut String, line: usize, outcome: Outcome) -> fmt::Result
+fn print_outcome(out: &mut String, line: usize, outcome: Outcome) -> fmt::Result
     ensures { λ r. ⌜ made r (λ _. string-bytes (now (out .exit)) ≡ string-bytes (now (out .entry)) ++ outcome-line line outcome) ⌝ }
 {
     match outcome {
@@ -52,11 +52,13 @@ pub fn print_outcome(out: &mut String, line: usize, outcome: Outcome) -> fmt::Re
         Outcome::Put(Ok(())) => writeln!(out, "{line}\tW"),
         Outcome::Put(Err(condition)) => print_refusal(out, line, condition, 0),
         Outcome::Purged => writeln!(out, "{line}\tZ"),
+        // no line of a text asks for these
+        Outcome::Fetched(_) | Outcome::Stored(_) => Ok(()),
     }
 }
 
 // What a listing says of calls that follow one another, the first of them on `line`.
-pub fn print_outcomes(out: &mut String, line: usize, outcomes: &[Outcome]) -> fmt::Result
+pub(crate) fn print_outcomes(out: &mut String, line: usize, outcomes: &[Outcome]) -> fmt::Result
     requires { ⌜ line + length (now outcomes) < 2 ^ 64 ⌝ }
     ensures { λ r. ⌜ made r (λ _. string-bytes (now (out .exit)) ≡ string-bytes (now (out .entry)) ++ listing-of line (now (outcomes .entry))) ⌝ }
 {

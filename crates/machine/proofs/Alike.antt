@@ -28,7 +28,8 @@ use Rattle.lookup.specs.Lookups.{access-asks, page-asks}
 use Rattle.lookup.specs.Sources.{asked}
 use Rattle.machine.specs.Registers.{Registers}
 use Rattle.machine.specs.Translation.{unless, cut, access-key, held-in, looked-up, space-of-token, space-of-register, space-by-mode, token-asks, register-asks, mode-asks, low-protected, page-key, framed, real-of, space-asks, page-asked, key-protected, reached, reach, translation}
-use Rattle.machine.specs.Alike.{Seen-by, translated, space-seen, real-seen, Alike, Answers-alike}
+use Rattle.machine.specs.Law.{Seen-by, translated, space-seen, real-seen, Alike, Answers-alike}
+use Rattle.machine.proofs.Few.{translation-short}
 
 module _ (w v : ℕ → Option ℕ) where
   agree-front : (xs ys : List ℕ) → Agree w v (xs ++ ys) → Agree w v xs
@@ -148,9 +149,12 @@ module _ (r : Registers) (m n : Seen-by) (access : Access) (register address pla
       (λ space found t. then-alike (m .view .word) (n .view .word) (unless LowAddress low) (unless LowAddress low) (λ _. last m space) (λ _. last n space) (λ _. refl) (λ u passed t′. last-alike space u found passed t′) t)
       h
 
-  pub answers-alike : Answers-alike r m n access register address places
+  same-answer : translated r n access register address places ≡ translated r m access register address places
   unfolding w v a low last late
-  answers-alike =
+  same-answer =
       then-alike (m .view .word) (n .view .word) (unless BadNumber (ltb 15 register)) (unless BadNumber (ltb 15 register)) (λ _. then (unless ShortList (ltb places 12)) (λ _. then (space-seen r m access register address places) (late m))) (λ _. then (unless ShortList (ltb places 12)) (λ _. then (space-seen r n access register address places) (late n))) (λ _. refl)
       (λ _ _ h. then-alike (m .view .word) (n .view .word) (unless ShortList (ltb places 12)) (unless ShortList (ltb places 12)) (λ _. then (space-seen r m access register address places) (late m)) (λ _. then (space-seen r n access register address places) (late n)) (λ _. refl) (λ _ _ t. reach-alike t) h)
       (alike .listed)
+
+  pub answers-alike : Answers-alike r m n access register address places
+  answers-alike = (same-answer, translation-short r (m .arts) (m .pages) (m .view) access register address places)

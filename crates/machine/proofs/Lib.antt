@@ -1,8 +1,7 @@
+pub mod Accesses
 pub mod Alike
-pub mod Far
+pub mod Few
 pub mod InOrder
-pub mod Lawful
 pub mod Results
-pub mod Sound
 pub mod Steps
 pub mod Whole

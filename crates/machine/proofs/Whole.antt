@@ -3,16 +3,18 @@ use Prim.Native.Nat.{ℕ, _%_, _^_, _<_, _≤_}
 use native.Mathlib.Nat.{zero-add}
 use mathlib.Core.Path.{_≡_, refl, sym, ap, ap₂, subst, _∙_}
 use mathlib.Core.Bool.{Bool, true, false, cond, not, _&&_, _||_}
-use mathlib.Core.List.{List, [], _++_, append-nil}
+use mathlib.Core.List.{List, [], _∷_, _++_, append-nil}
 use lib.Dec.{eqb, ltb}
 use lib.ListN.{length}
-use borrow.Author.Tests.{eq-eqb, lt-ltb, le-ltb}
+use borrow.Author.Tests.{eq-eqb, lt-ltb, le-ltb, clash}
+use Rattle.std.specs.Results.{isOk}
 use Rattle.std.specs.declared.option.Option.{Option}
 use Rattle.std.specs.declared.result.Result.{Result}
 use Rattle.arch.specs.declared.call.Access.{Access}
 use Rattle.arch.specs.declared.condition.Condition.{Condition}
 use Rattle.arch.specs.declared.condition.Condition.the-variants.{BadNumber, Unaligned, ShortList}
 use Rattle.std.specs.declared.result.Result.the-variants.{Ok, Err}
+use Rattle.arch.specs.Order.{Row, row, first-of}
 use Rattle.arch.specs.Walks.{Seen, Stepped, onward, then, written}
 use Rattle.storage.specs.Views.{View}
 use Rattle.storage.specs.Prefixes.{lawful-prefix, prefixed}
@@ -77,6 +79,18 @@ module _ (register address places : ℕ) (small : register ≤ 15) (even : addre
 
   pub no-refusal-there : refuses-translation register places ≡ false
   no-refusal-there = ap (λ b. b || ltb places 12) (le-ltb _ _ small) ∙ le-ltb _ _ room
+
+  -- the tables of a translation and of an access have the same first row that applies
+  pub rows-passed : (rows : List Row) → first-of (row BadNumber (ltb 15 register) ∷ row ShortList (ltb places 12) ∷ rows) ≡ first-of (row BadNumber (ltb 15 register) ∷ row Unaligned (not (eqb (address % 8) 0)) ∷ row ShortList (ltb places 12) ∷ rows)
+  rows-passed rows =
+      ap (λ b. first-of (row BadNumber (ltb 15 register) ∷ row Unaligned (not b) ∷ row ShortList (ltb places 12) ∷ rows)) (sym (eq-eqb _ _ even))
+
+-- a fetch or a store that is answered was not refused
+pub answered-unrefused : {A : Type 0} (p q u : Bool) (s : Seen A) {x : A} → Ok x ≡ then (unless BadNumber p) (λ _. then (unless Unaligned q) (λ _. then (unless ShortList u) (λ _. s))) .result → (p || (q || u)) ≡ false
+answered-unrefused true q u s e = absurd (clash (sym (ap isOk e)))
+answered-unrefused false true u s e = absurd (clash (sym (ap isOk e)))
+answered-unrefused false false true s e = absurd (clash (sym (ap isOk e)))
+answered-unrefused false false false s e = refl
 
 -- the same count of another term for the result
 pub counts-as : {A : Type 0} {s : Seen A} {before after : List ℕ} {r q : Result A Condition} {n : ℕ} → r ≡ q → Counts s before after q n → Counts s before after r n

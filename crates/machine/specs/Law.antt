@@ -1,18 +1,20 @@
 -- The law of every run: what is known of each answer, however stores, purges and translations follow one another.
-use Prim.Native.Nat.{ℕ}
+use Prim.Native.Nat.{ℕ, _*_, _/_, _^_, _≤_, _<_}
 use mathlib.Core.Path.{_≡_}
 use mathlib.Core.Logic.{_⊎_}
 use mathlib.Core.Bool.{cond}
 use mathlib.Core.List.{List, [], _∷_}
+use lib.ListN.{length, getD}
+use Rattle.std.specs.Options.{isSome}
 use Rattle.std.specs.shelf.Lists.{All}
 use Rattle.std.specs.declared.option.Option.{Option}
 use Rattle.std.specs.declared.option.Option.the-variants.{Some}
 use Rattle.std.specs.declared.result.Result.the-variants.{Ok}
 use Rattle.arch.specs.declared.call.Access.{Access}
-use Rattle.arch.specs.declared.call.Call.{Call}
-use Rattle.arch.specs.declared.call.Call.the-variants as call
-use Rattle.arch.specs.Walks.{Seen, Agree}
-use Rattle.storage.specs.Views.{View}
+use Rattle.arch.specs.declared.call.SourceName.the-variants.{AccessRegister, Page}
+use Rattle.arch.specs.declared.condition.Condition.the-variants.{LowAddress}
+use Rattle.arch.specs.Walks.{Seen, then, Agree}
+use Rattle.storage.specs.Views.{View, block-of}
 use Rattle.lookup.specs.declared.access.AccessKey.{AccessKey}
 use Rattle.lookup.specs.declared.access.AccessAnswer.{AccessAnswer}
 use Rattle.lookup.specs.declared.page.PageKey.{PageKey}
@@ -20,11 +22,13 @@ use Rattle.lookup.specs.declared.page.PageAnswer.{PageAnswer}
 use Rattle.lookup.specs.Access.{access-fits}
 use Rattle.lookup.specs.Lookups.{access-fresh, page-fresh, access-asks, page-asks}
 use Rattle.lookup.specs.Spelling.{page-fits}
-use Rattle.machine.specs.declared.perform.Outcome.{Outcome}
+use Rattle.machine.specs.declared.request.Outcome.{Outcome}
+use Rattle.machine.specs.declared.request.Outcome.the-variants as outcome
+use Rattle.machine.specs.declared.request.Request.{Request}
 use Rattle.machine.specs.Calls.{zero-registers}
 use Rattle.machine.specs.Registers.{Registers}
-use Rattle.machine.specs.Runs.{real-view, run-translation, outcome-of, registers-after, view-after, purges-arts, purges-pages}
-use Rattle.machine.specs.Translation.{cut, mode-asks, page-asked, space-by-mode}
+use Rattle.machine.specs.Runs.{Shown, bare, real-view, outcome-of, registers-after, view-after, translates, art-asked, page-asked-by, purges, Passed}
+use Rattle.machine.specs.Translation.{unless, cut, mode-asks, page-asked, space-by-mode, low-protected, real-of, translation}
 
 -- MOMENTS. A run stands between two calls: the registers, the storage beneath the prefix, and what the machine
 -- saw of the storage at the earlier moments since each source's latest purge. A doubleword that is absent counts
@@ -50,13 +54,14 @@ pages-since s = seen-now s ∷ s .pages-earlier
 abbrev pub start : View → State
 start v = record { registers = zero-registers; view = v; arts-earlier = []; pages-earlier = [] }
 
--- a call ends one moment and begins the next; a purge leaves no earlier moment
-abbrev pub next : State → Call → State
-next s c = record {
+-- a call, with what the sources showed as it began, ends one moment and begins the next; a purge leaves no
+-- earlier moment
+abbrev pub next : State → Shown → Request → State
+next s shown c = record {
   registers = registers-after (s .registers) c;
-  view = view-after (s .registers) (s .view) c;
-  arts-earlier = cond (purges-arts c) [] (arts-since s);
-  pages-earlier = cond (purges-pages c) [] (pages-since s);
+  view = view-after (s .registers) shown (s .view) c;
+  arts-earlier = cond (purges AccessRegister c) [] (arts-since s);
+  pages-earlier = cond (purges Page c) [] (pages-since s);
 }
 
 -- at one of these moments
@@ -64,9 +69,9 @@ abbrev pub Once : ((ℕ → Option ℕ) → Type 0) → List (ℕ → Option ℕ
 Once P [] = ⊥
 Once P (w ∷ ws) = P w ⊎ Once P ws
 
--- THE RECORD. What came of a call, where the sources showed these answers as it began.
-abbrev pub Came : State → (AccessKey → Option AccessAnswer) → (PageKey → Option PageAnswer) → Call → Outcome → Type 0
-Came s arts pages c o = o ≡ outcome-of (s .registers) (access-asks arts (seen-now s)) (page-asks pages (seen-now s)) (s .view) c
+-- THE RECORD. What came of a call.
+abbrev pub Came : State → Shown → Request → Outcome → Type 0
+Came s shown c o = o ≡ outcome-of (s .registers) shown (s .view) c
 
 -- FRESH ONCE. Every answer that a source shows is the one fresh for its key at some moment since its latest purge.
 -- (Where it shows none, it gives the fresh result of the present moment, an exception too: so `access-asks` says.)
@@ -77,42 +82,116 @@ Fresh-once {Key} {Answer} fits fresh since shows = (k : Key) (a : Answer) → fi
 abbrev pub Steady : (ℕ → Option ℕ) → List (ℕ → Option ℕ) → List ℕ → Type 0
 Steady now since list = All (λ w. Agree now w list) since
 
--- what the bare lookups of a translation would fetch has held one value since the latest purge of the source in
--- whose place they stand
-abbrev pub Unchanged : State → Access → ℕ → ℕ → Type 0
-Unchanged s access register address =
-    ((k : AccessKey) → mode-asks (s .registers .mode) (s .registers) register ≡ Some k → Steady (seen-now s) (arts-since s) (access-fresh (seen-now s) k .list))
-    × ((k : PageKey) → page-asked (s .registers) access (cut (s .registers .size) address) (space-by-mode (s .registers .mode) (s .registers) (access-fresh (seen-now s)) register .result) ≡ Some k → Steady (seen-now s) (pages-since s) (page-fresh (seen-now s) k .list))
+-- what bare sources would fetch for a call has held one value since the latest purge of the source in whose
+-- place they stand
+abbrev pub Unchanged : State → Request → Type 0
+Unchanged s c =
+    ((k : AccessKey) → art-asked (s .registers) (translates c) ≡ Some k → Steady (seen-now s) (arts-since s) (access-fresh (seen-now s) k .list))
+    × ((k : PageKey) → page-asked-by (s .registers) (access-fresh (seen-now s)) (translates c) ≡ Some k → Steady (seen-now s) (pages-since s) (page-fresh (seen-now s) k .list))
 
--- FRESH NOW WHERE NOTHING CHANGED. There a translation gives the address or number that it gives with bare sources.
-abbrev pub Fresh-now : State → (AccessKey → Option AccessAnswer) → (PageKey → Option PageAnswer) → Call → Type 0
-Fresh-now s arts pages (call.Translate access register address) =
-    Unchanged s access register address
-    → run-translation (s .registers) (access-asks arts (seen-now s)) (page-asks pages (seen-now s)) (s .view) access register address .result
-    ≡ run-translation (s .registers) (access-fresh (seen-now s)) (page-fresh (seen-now s)) (s .view) access register address .result
-Fresh-now s arts pages (call.LoadControl n x) = Unit {0}
-Fresh-now s arts pages (call.LoadAccess n x) = Unit {0}
-Fresh-now s arts pages (call.LoadMode mode size key) = Unit {0}
-Fresh-now s arts pages (call.SetPrefix p) = Unit {0}
-Fresh-now s arts pages (call.Put a x) = Unit {0}
-Fresh-now s arts pages (call.Purge source) = Unit {0}
+-- an outcome but for the count of doublewords fetched
+abbrev pub uncounted : Outcome → Outcome
+uncounted (outcome.Loaded r) = outcome.Loaded r
+uncounted (outcome.Translated x) = outcome.Translated (record { result = x .result; count = 0 })
+uncounted (outcome.Put r) = outcome.Put r
+uncounted outcome.Purged = outcome.Purged
+uncounted (outcome.Fetched x) = outcome.Fetched (record { result = x .result; count = 0 })
+uncounted (outcome.Stored x) = outcome.Stored (record { result = x .result; count = 0 })
 
--- one call of a run keeps the law
-pub record Keeps-law (s : State) (c : Call) (o : Outcome) : Type 0 where
+-- FRESH NOW WHERE NOTHING CHANGED. There what comes of a call, but for the count, is what comes of it with bare
+-- sources in place of both, and it leaves the same storage.
+abbrev pub Fresh-now : State → Shown → Request → Type 0
+Fresh-now s shown c =
+    Unchanged s c
+    → (uncounted (outcome-of (s .registers) shown (s .view) c) ≡ uncounted (outcome-of (s .registers) bare (s .view) c))
+    × (view-after (s .registers) shown (s .view) c ≡ view-after (s .registers) bare (s .view) c)
+
+-- one call keeps the law
+pub record Keeps-law (s : State) (shown : Shown) (c : Request) (o : Outcome) : Type 0 where
+  pub came : Came s shown c o
+  pub arts-once : Fresh-once access-fits access-fresh (arts-since s) (shown .arts)
+  pub pages-once : Fresh-once page-fits page-fresh (pages-since s) (shown .pages)
+  pub now : Fresh-now s shown c
+
+-- A run over two sources of any make, by what they show and by what an ask or a purge does to them.
+module _ {A P : Type 0} (arts-show : A → AccessKey → Option AccessAnswer) (arts-move : A → (AccessKey → Seen AccessAnswer) → AccessKey → A → Type 0) (arts-clear : A → A → Type 0)
+    (pages-show : P → PageKey → Option PageAnswer) (pages-move : P → (PageKey → Seen PageAnswer) → PageKey → P → Type 0) (pages-clear : P → P → Type 0) where
+  abbrev pub shown-by : A → P → Shown
+  shown-by a p = record { arts = arts-show a; pages = pages-show p }
+
+  -- each source after a call: purged, or asked for its key over the storage as the call starts, or as it was
+  abbrev pub Arts-pass : Registers → View → Request → A → A → Type 0
+  Arts-pass r v c a a′ = Passed (purges AccessRegister c) (art-asked r (translates c)) arts-clear (arts-move a (access-fresh (real-view r v .word))) a a′
+
+  abbrev pub Pages-pass : Registers → View → Shown → Request → P → P → Type 0
+  Pages-pass r v shown c p p′ = Passed (purges Page c) (page-asked-by r (access-asks (shown .arts) (real-view r v .word)) (translates c)) pages-clear (pages-move p (page-fresh (real-view r v .word))) p p′
+
+  -- each call of a run keeps the law, from one state of storage and sources to another
+  abbrev pub Lawful : State → A → P → List Request → List Outcome → State → A → P → Type 0
+  Lawful s a p [] os s′ a′ p′ = (s′ ≡ s) × (a′ ≡ a) × (p′ ≡ p)
+  Lawful s a p (c ∷ cs) [] s′ a′ p′ = ⊥
+  Lawful s a p (c ∷ cs) (o ∷ os) s′ a′ p′ = (b : A) × ((q : P) × (Keeps-law s (shown-by a p) c o × Arts-pass (s .registers) (s .view) c a b × Pages-pass (s .registers) (s .view) (shown-by a p) c p q × Lawful (next s (shown-by a p) c) b q cs os s′ a′ p′))
+
+  -- a whole run: the new call purges both sources, over a storage and sources in any state, and the law holds
+  -- of every call from there on
+  pub record Ran (v : View) (a : A) (p : P) (cs : List Request) (os : List Outcome) (v′ : View) (a′ : A) (p′ : P) : Type 0 where
+    pub arts : A
+    pub pages : P
+    pub last : State
+    pub arts-purged : arts-clear a arts
+    pub pages-purged : pages-clear p pages
+    pub law : Lawful (start v) arts pages cs os last a′ p′
+    pub view : v′ ≡ last .view
+
+-- NOTHING ELSE MATTERS. What a translation sees of a machine besides its registers: what its sources show, and the
+-- storage through its prefix.
+pub record Seen-by : Type 0 where
   pub arts : AccessKey → Option AccessAnswer
   pub pages : PageKey → Option PageAnswer
-  pub came : Came s arts pages c o
-  pub arts-once : Fresh-once access-fits access-fresh (arts-since s) arts
-  pub pages-once : Fresh-once page-fits page-fresh (pages-since s) pages
-  pub now : Fresh-now s arts pages c
+  pub view : View
 
--- and so does each call of the run
-abbrev pub Lawful : State → List Call → List Outcome → Type 0
-Lawful s [] os = Unit {0}
-Lawful s (c ∷ cs) [] = ⊥
-Lawful s (c ∷ cs) (o ∷ os) = Keeps-law s c o × Lawful (next s c) cs os
+module _ (r : Registers) (m : Seen-by) (access : Access) (register address places : ℕ) where
+  abbrev pub translated : Seen ℕ
+  translated = translation r (access-asks (m .arts) (m .view .word)) (page-asks (m .pages) (m .view .word)) (m .view) access register address places
 
--- where a run stands after these calls
-abbrev pub after : State → List Call → State
-after s [] = s
-after s (c ∷ cs) = after (next s c) cs
+  abbrev pub space-seen : Seen (Option AccessAnswer)
+  space-seen = space-by-mode (r .mode) r (access-asks (m .arts) (m .view .word)) register
+
+  -- the real address, before the doubleword there is looked at
+  abbrev pub real-seen : Seen ℕ
+  real-seen = then space-seen (λ space. then (unless LowAddress (low-protected r access (cut (r .size) address))) (λ _. real-of (page-asks (m .pages) (m .view .word)) access space (cut (r .size) address)))
+
+-- alike in what the sources show for the keys that the first asks, in the doublewords that it lists, and in presence
+-- and key of the doubleword that it reaches
+pub record Alike (r : Registers) (m n : Seen-by) (access : Access) (register address places : ℕ) : Type 0 where
+  pub arts : (k : AccessKey) → mode-asks (r .mode) r register ≡ Some k → m .arts k ≡ n .arts k
+  pub pages : (k : PageKey) → page-asked r access (cut (r .size) address) (space-seen r m access register address places .result) ≡ Some k → m .pages k ≡ n .pages k
+  pub listed : Agree (m .view .word) (n .view .word) (translated r m access register address places .list)
+  pub present : (real : ℕ) → real-seen r m access register address places .result ≡ Ok real → isSome (m .view .word (real / 8 * 8)) ≡ isSome (n .view .word (real / 8 * 8))
+  pub key : (real : ℕ) → real-seen r m access register address places .result ≡ Ok real → m .view .key (block-of real) ≡ n .view .key (block-of real)
+
+-- they give the same address or number, and the same list, which has at most twelve addresses
+abbrev pub Answers-alike : Registers → Seen-by → Seen-by → Access → ℕ → ℕ → ℕ → Type 0
+Answers-alike r m n access register address places =
+    (translated r n access register address places ≡ translated r m access register address places)
+    × (length (translated r m access register address places .list) ≤ 12)
+
+-- of any two machines, for any translation
+abbrev pub Nothing-else-matters : Type 0
+Nothing-else-matters = (r : Registers) (m n : Seen-by) (access : Access) (register address places : ℕ) → Alike r m n access register address places → Answers-alike r m n access register address places
+
+-- CALL BY CALL. Where a machine and its sources stand as in such a state: every pair held was fresh at one of the
+-- moments since the latest purge.
+abbrev pub Sound : {Key Answer : Type 0} → (Key → Type 0) → ((ℕ → Option ℕ) → Key → Seen Answer) → List (ℕ → Option ℕ) → (Key → Answer → Type 0) → Type 0
+Sound {Key} {Answer} fits fresh since holds = (k : Key) (a : Answer) → fits k → holds k a → Once (λ w. fresh w k .result ≡ Ok a) since
+
+-- access registers have 32 bits
+abbrev pub Bounded : Registers → Type 0
+Bounded r = (i : ℕ) → getD (r .access) i 0 < 2 ^ 32
+
+pub record Stands (s : State) (r : Registers) (v : View) (arts-hold : AccessKey → AccessAnswer → Type 0) (pages-hold : PageKey → PageAnswer → Type 0) : Type 0 where
+  pub registers : r ≡ s .registers
+  pub view : v ≡ s .view
+  pub arts : Sound access-fits access-fresh (arts-since s) arts-hold
+  pub pages : Sound page-fits page-fresh (pages-since s) pages-hold
+  pub small : Bounded (s .registers)

@@ -1,5 +1,4 @@
 pub mod Accesses
-pub mod Alike
 pub mod Calls
 pub mod Law
 pub mod Orders

@@ -1,5 +1,5 @@
 -- The conditions of a whole translation, walked afresh, as one table in the order in which they are tested.
-use Prim.Native.Nat.{ℕ, zero, suc, _*_, _/_}
+use Prim.Native.Nat.{ℕ, zero, suc, _*_, _/_, _%_}
 use mathlib.Core.Bool.{Bool, false, cond, not, _&&_}
 use mathlib.Core.List.{List, [], _∷_, _++_}
 use lib.Dec.{eqb, ltb}
@@ -9,7 +9,7 @@ use Rattle.std.specs.declared.option.Option.{Option}
 use Rattle.std.specs.declared.option.Option.the-variants.{Some, None}
 use Rattle.arch.specs.Order.{Row, row}
 use Rattle.arch.specs.declared.call.Access.{Access}
-use Rattle.arch.specs.declared.condition.Condition.the-variants.{BadNumber, ShortList, Addressing, LowAddress, AccessList, Page, Key}
+use Rattle.arch.specs.declared.condition.Condition.the-variants.{BadNumber, Unaligned, ShortList, Addressing, LowAddress, AccessList, Page, Key}
 use Rattle.storage.specs.Views.{View, block-of}
 use Rattle.lookup.specs.declared.access.AccessKey.{AccessKey}
 use Rattle.lookup.specs.declared.access.AccessAnswer.{AccessAnswer}
@@ -68,12 +68,18 @@ module _ (r : Registers) (view : View) (access : Access) (register address place
   abbrev pub real-found : ℕ
   real-found = space-real (view .word) space-found (cut (r .size) address)
 
-  -- the whole table
-  abbrev pub translation-rows : List Row
-  translation-rows =
-      row BadNumber (ltb 15 register)
-      ∷ row ShortList (ltb places 12)
-      ∷ lookup-rows (view .word) (mode-asks (r .mode) r register)
+  -- from the access-register lookup to the doubleword reached
+  abbrev pub reaching-rows : List Row
+  reaching-rows =
+      lookup-rows (view .word) (mode-asks (r .mode) r register)
       ++ (row LowAddress (low-protected r access (cut (r .size) address))
       ∷ space-rows (view .word) access space-found (cut (r .size) address)
       ++ reach-rows r view access real-found)
+
+  -- the whole table of a translation
+  abbrev pub translation-rows : List Row
+  translation-rows = row BadNumber (ltb 15 register) ∷ row ShortList (ltb places 12) ∷ reaching-rows
+
+  -- and that of a fetch or a store
+  abbrev pub accessing-rows : List Row
+  accessing-rows = row BadNumber (ltb 15 register) ∷ row Unaligned (not (eqb (address % 8) 0)) ∷ row ShortList (ltb places 12) ∷ reaching-rows

@@ -5,8 +5,10 @@ ghost use mathlib.Core.Path.{_≡_};
 ghost use Rattle.arch.specs.declared.call.Access.the-variants.{Fetch, Store};
 ghost use Rattle.lookup.specs.Access.{access-fits};
 ghost use Rattle.lookup.specs.Lookups.{access-fresh, page-fresh, access-asks, page-asks};
-ghost use Rattle.lookup.specs.Sources.{Kept, Moved};
+ghost use Rattle.lookup.specs.Sources.{Kept, Moved, Silent};
 ghost use Rattle.lookup.specs.Spelling.{page-fits};
+ghost use Rattle.arch.specs.Order.{Ordered, value as value-at};
+ghost use Rattle.machine.specs.Orders.{accessing-rows, real-found};
 ghost use Rattle.machine.specs.Accesses.{value-there, accessing, fetching, storing, stored-at, refuses-access};
 ghost use Rattle.machine.specs.Calls.{Counts};
 ghost use Rattle.machine.specs.Registers.{registers};
@@ -34,7 +36,42 @@ impl Machine {
         storage.fetch(real).ok_or(Condition::Addressing)
     }
 
-    // Fetches the doubleword at an address, by an access register.
+    // The translation that an access makes. Refused before it, in this order: a number of no access register, an
+    // address that is no multiple of 8, too few places.
+    fn accessed<S: Storage, A: Source<AccessRegister>, P: Source<Paging>>(
+        &mut self,
+        storage: &mut Prefixed<S>,
+        arts: &mut A,
+        pages: &mut P,
+        access: Access,
+        register: u64,
+        address: u64,
+        list: &mut [u64],
+    ) -> Counted<u64>
+        ensures gives { λ r. ⌜ Counts (accessing (registers (now (self .entry))) (access-asks (A·Source .shows (now (arts .entry))) (prefixed (now (self .entry) .prefix) (S·Storage .view (now (storage .entry) .beneath)) .word)) (page-asks (P·Source .shows (now (pages .entry))) (prefixed (now (self .entry) .prefix) (S·Storage .view (now (storage .entry) .beneath)) .word)) (prefixed (now (self .entry) .prefix) (S·Storage .view (now (storage .entry) .beneath))) register address (length (now (list .entry))) access) (now (list .entry)) (now (list .exit)) (r .result) (r .count) ⌝ }
+        ensures registers { λ _. ⌜ now (self .exit) ≡ now (self .entry) ⌝ }
+        ensures storage { λ _. ⌜ now (storage .exit) .beneath ≡ now (storage .entry) .beneath ⌝ }
+        ensures arts { λ _. ⌜ Kept access-fits (access-fresh (prefixed (now (self .entry) .prefix) (S·Storage .view (now (storage .entry) .beneath)) .word)) (A·Source .holds (now (arts .entry))) (A·Source .holds (now (arts .exit))) ⌝ }
+        ensures pages { λ _. ⌜ Kept page-fits (page-fresh (prefixed (now (self .entry) .prefix) (S·Storage .view (now (storage .entry) .beneath)) .word)) (P·Source .holds (now (pages .entry))) (P·Source .holds (now (pages .exit))) ⌝ }
+        ensures arts_moved { λ _. ⌜ Moved (cond (refuses-access register address (length (now (list .entry)))) None (mode-asks (now (self .entry) .mode) (registers (now (self .entry))) register)) (A·Source .moves (now (arts .entry)) (access-fresh (prefixed (now (self .entry) .prefix) (S·Storage .view (now (storage .entry) .beneath)) .word))) (now (arts .entry)) (now (arts .exit)) ⌝ }
+        ensures pages_moved { λ _. ⌜ Moved (cond (refuses-access register address (length (now (list .entry)))) None (page-asked (registers (now (self .entry))) access (cutting (now (self .entry) .size) address) (space-by-mode (now (self .entry) .mode) (registers (now (self .entry))) (access-asks (A·Source .shows (now (arts .entry))) (prefixed (now (self .entry) .prefix) (S·Storage .view (now (storage .entry) .beneath)) .word)) register .result))) (P·Source .moves (now (pages .entry)) (page-fresh (prefixed (now (self .entry) .prefix) (S·Storage .view (now (storage .entry) .beneath)) .word))) (now (pages .entry)) (now (pages .exit)) ⌝ }
+        ensures refused { λ _. ⌜ (refuses-access register address (length (now (list .entry))) ≡ true → now (storage .exit) ≡ now (storage .entry)) ⌝ }
+        ensures order { λ r. ⌜ (Silent (A·Source .shows (now (arts .entry))) → Silent (P·Source .shows (now (pages .entry))) → Ordered (accessing-rows (registers (now (self .entry))) (prefixed (now (self .entry) .prefix) (S·Storage .view (now (storage .entry) .beneath))) access register address (length (now (list .entry)))) (real-found (registers (now (self .entry))) (prefixed (now (self .entry) .prefix) (S·Storage .view (now (storage .entry) .beneath))) access register address (length (now (list .entry)))) (r .result)) ⌝ }
+    {
+        if register > 15 {
+            return Counted::refused(Condition::BadNumber);
+        }
+        if address % 8 != 0 {
+            return Counted::refused(Condition::Unaligned);
+        }
+        if list.len() < 12 {
+            return Counted::refused(Condition::ShortList);
+        }
+        self.translate(storage, arts, pages, access, register, address, list)
+    }
+
+    // Fetches the doubleword at an address, by an access register. With sources that show nothing it comes to the
+    // value at the real address exactly where no condition of its table applies, and else to the first that does.
     pub fn fetch<S: Storage, A: Source<AccessRegister>, P: Source<Paging>>(
         &mut self,
         storage: &mut Prefixed<S>,
@@ -51,27 +88,10 @@ impl Machine {
         ensures pages { λ _. ⌜ Kept page-fits (page-fresh (prefixed (now (self .entry) .prefix) (S·Storage .view (now (storage .entry) .beneath)) .word)) (P·Source .holds (now (pages .entry))) (P·Source .holds (now (pages .exit))) ⌝ }
         ensures arts_moved { λ _. ⌜ Moved (cond (refuses-access register address (length (now (list .entry)))) None (mode-asks (now (self .entry) .mode) (registers (now (self .entry))) register)) (A·Source .moves (now (arts .entry)) (access-fresh (prefixed (now (self .entry) .prefix) (S·Storage .view (now (storage .entry) .beneath)) .word))) (now (arts .entry)) (now (arts .exit)) ⌝ }
         ensures pages_moved { λ _. ⌜ Moved (cond (refuses-access register address (length (now (list .entry)))) None (page-asked (registers (now (self .entry))) Fetch (cutting (now (self .entry) .size) address) (space-by-mode (now (self .entry) .mode) (registers (now (self .entry))) (access-asks (A·Source .shows (now (arts .entry))) (prefixed (now (self .entry) .prefix) (S·Storage .view (now (storage .entry) .beneath)) .word)) register .result))) (P·Source .moves (now (pages .entry)) (page-fresh (prefixed (now (self .entry) .prefix) (S·Storage .view (now (storage .entry) .beneath)) .word))) (now (pages .entry)) (now (pages .exit)) ⌝ }
-        ensures refused { λ _. ⌜ ((refuses-access register address (length (now (list .entry)))) ≡ true → now (storage .exit) ≡ now (storage .entry)) ⌝ }
+        ensures refused { λ _. ⌜ (refuses-access register address (length (now (list .entry))) ≡ true → now (storage .exit) ≡ now (storage .entry)) ⌝ }
+        ensures order { λ r. ⌜ (Silent (A·Source .shows (now (arts .entry))) → Silent (P·Source .shows (now (pages .entry))) → Ordered (accessing-rows (registers (now (self .entry))) (prefixed (now (self .entry) .prefix) (S·Storage .view (now (storage .entry) .beneath))) Fetch register address (length (now (list .entry)))) (value-at (prefixed (now (self .entry) .prefix) (S·Storage .view (now (storage .entry) .beneath)) .word) (real-found (registers (now (self .entry))) (prefixed (now (self .entry) .prefix) (S·Storage .view (now (storage .entry) .beneath))) Fetch register address (length (now (list .entry))))) (r .result)) ⌝ }
     {
-        if register > 15 {
-            return Counted {
-                result: Err(Condition::BadNumber),
-                count: 0,
-            };
-        }
-        if address % 8 != 0 {
-            return Counted {
-                result: Err(Condition::Unaligned),
-                count: 0,
-            };
-        }
-        if list.len() < 12 {
-            return Counted {
-                result: Err(Condition::ShortList),
-                count: 0,
-            };
-        }
-        let reached = self.translate(storage, arts, pages, Access::Fetch, register, address, list);
+        let reached = self.accessed(storage, arts, pages, Access::Fetch, register, address, list);
         let count = reached.count;
         match reached.result {
             Ok(real) => Counted {
@@ -85,7 +105,8 @@ impl Machine {
         }
     }
 
-    // Stores the doubleword at an address, by an access register.
+    // Stores the doubleword at an address, by an access register. With sources that show nothing it is done exactly
+    // where no condition of its table applies, and else the first that does is met.
     pub fn store<S: Storage, A: Source<AccessRegister>, P: Source<Paging>>(
         &mut self,
         storage: &mut Prefixed<S>,
@@ -103,27 +124,10 @@ impl Machine {
         ensures pages { λ _. ⌜ Kept page-fits (page-fresh (prefixed (now (self .entry) .prefix) (S·Storage .view (now (storage .entry) .beneath)) .word)) (P·Source .holds (now (pages .entry))) (P·Source .holds (now (pages .exit))) ⌝ }
         ensures arts_moved { λ _. ⌜ Moved (cond (refuses-access register address (length (now (list .entry)))) None (mode-asks (now (self .entry) .mode) (registers (now (self .entry))) register)) (A·Source .moves (now (arts .entry)) (access-fresh (prefixed (now (self .entry) .prefix) (S·Storage .view (now (storage .entry) .beneath)) .word))) (now (arts .entry)) (now (arts .exit)) ⌝ }
         ensures pages_moved { λ _. ⌜ Moved (cond (refuses-access register address (length (now (list .entry)))) None (page-asked (registers (now (self .entry))) Store (cutting (now (self .entry) .size) address) (space-by-mode (now (self .entry) .mode) (registers (now (self .entry))) (access-asks (A·Source .shows (now (arts .entry))) (prefixed (now (self .entry) .prefix) (S·Storage .view (now (storage .entry) .beneath)) .word)) register .result))) (P·Source .moves (now (pages .entry)) (page-fresh (prefixed (now (self .entry) .prefix) (S·Storage .view (now (storage .entry) .beneath)) .word))) (now (pages .entry)) (now (pages .exit)) ⌝ }
-        ensures refused { λ _. ⌜ ((refuses-access register address (length (now (list .entry)))) ≡ true → now (storage .exit) ≡ now (storage .entry)) ⌝ }
+        ensures refused { λ _. ⌜ (refuses-access register address (length (now (list .entry))) ≡ true → now (storage .exit) ≡ now (storage .entry)) ⌝ }
+        ensures order { λ r. ⌜ (Silent (A·Source .shows (now (arts .entry))) → Silent (P·Source .shows (now (pages .entry))) → Ordered (accessing-rows (registers (now (self .entry))) (prefixed (now (self .entry) .prefix) (S·Storage .view (now (storage .entry) .beneath))) Store register address (length (now (list .entry)))) tt (r .result)) ⌝ }
     {
-        if register > 15 {
-            return Counted {
-                result: Err(Condition::BadNumber),
-                count: 0,
-            };
-        }
-        if address % 8 != 0 {
-            return Counted {
-                result: Err(Condition::Unaligned),
-                count: 0,
-            };
-        }
-        if list.len() < 12 {
-            return Counted {
-                result: Err(Condition::ShortList),
-                count: 0,
-            };
-        }
-        let reached = self.translate(storage, arts, pages, Access::Store, register, address, list);
+        let reached = self.accessed(storage, arts, pages, Access::Store, register, address, list);
         let count = reached.count;
         match reached.result {
             Ok(real) => Counted {

@@ -2,15 +2,14 @@
 mod access;
 mod load;
 mod machine;
-mod perform;
 mod reach;
 mod registers;
-mod running;
+mod request;
 mod space;
 mod state;
 
 pub use machine::Counted;
-pub use perform::Outcome;
 pub use registers::Control;
 pub use registers::Machine;
-pub use running::run;
+pub use request::Outcome;
+pub use request::Request;

@@ -7,13 +7,14 @@ ghost use Rattle.lookup.specs.Access.{access-fits};
 ghost use Rattle.lookup.specs.Lookups.{access-fresh, page-fresh, access-asks, page-asks};
 ghost use Rattle.lookup.specs.Sources.{Kept, Moved, Silent};
 ghost use Rattle.lookup.specs.Spelling.{page-fits};
-ghost use Rattle.machine.specs.Alike.{Seen-by, Alike, Answers-alike};
+ghost use Rattle.machine.specs.Law.{Seen-by, Alike, Answers-alike};
 ghost use Rattle.machine.specs.Calls.{Counts, refuses-translation};
 ghost use Rattle.machine.specs.Orders.{translation-rows, real-found};
 ghost use Rattle.machine.specs.Registers.{registers};
 ghost use Rattle.machine.specs.Translation.{translation, cut, mode-asks, page-asked, space-by-mode};
 ghost use Rattle.storage.specs.Prefixes.{prefixed};
 ghost use Rattle.std.specs.declared.option.Option.the-variants.{None};
+ghost use Rattle.std.specs.declared.result.Result.the-variants.{Err};
 use crate::registers::Machine;
 use arch::call::Access;
 use arch::condition::Condition;
@@ -29,6 +30,18 @@ use storage::storage::Storage;
 pub struct Counted<T> {
     pub result: Result<T, Condition>,
     pub count: usize,
+}
+
+impl<T> Counted<T> {
+    // Refused before anything was asked for.
+    pub(crate) fn refused(condition: Condition) -> Counted<T>
+        ensures { λ r. ⌜ r ≡ record { result = Err condition; count = 0 } ⌝ }
+    {
+        Counted {
+            result: Err(condition),
+            count: 0,
+        }
+    }
 }
 
 impl Machine {
@@ -57,16 +70,10 @@ impl Machine {
         ensures order { λ r. ⌜ (Silent (A·Source .shows (now (arts .entry))) → Silent (P·Source .shows (now (pages .entry))) → Ordered (translation-rows (registers (now (self .entry))) (prefixed (now (self .entry) .prefix) (S·Storage .view (now (storage .entry) .beneath))) access register address (length (now (list .entry)))) (real-found (registers (now (self .entry))) (prefixed (now (self .entry) .prefix) (S·Storage .view (now (storage .entry) .beneath))) access register address (length (now (list .entry)))) (r .result)) ⌝ }
     {
         if register > 15 {
-            return Counted {
-                result: Err(Condition::BadNumber),
-                count: 0,
-            };
+            return Counted::refused(Condition::BadNumber);
         }
         if list.len() < 12 {
-            return Counted {
-                result: Err(Condition::ShortList),
-                count: 0,
-            };
+            return Counted::refused(Condition::ShortList);
         }
         let _ = storage.set_prefix(self.prefix);
         let mut used = 0;

@@ -22,4 +22,4 @@ returns g c =
     let keys : length (c .deref-mut-2 .result .now) ≡ 256 = c .deref-mut-2 .ensures .len ∙ c .in-Continue-keys .ensures tt .made .1 in
     let calls : length (c .deref-mut-3 .result .now) ≡ 16384 = c .deref-mut-3 .ensures .len ∙ c .in-Continue-calls .ensures tt .made .1 in
     let all : lent (c .deref-mut .result .now) (c .deref-mut-2 .result .now) (c .deref-mut-3 .result .now) ≡ places = λ i. record { words = words i; keys = keys i; calls = calls i } in
-    subst (λ p. made (c .list-within .result) (λ out. Lists p (c .args .text .now) (string-bytes out))) all (c .list-within .ensures)
+    subst (λ p. made (c .list-within .result) (λ out. Lists (g .A·Source .shows) (g .A·Source .moves) (g .A·Source .clears) (g .P·Source .shows) (g .P·Source .moves) (g .P·Source .clears) p (c .args .text .now) (string-bytes out) (c .args .arts .now) (c .args .pages .now) (c .list-within .last .arts) (c .list-within .last .pages))) all (c .list-within .ensures)

@@ -12,11 +12,7 @@ use Rattle.std.specs.declared.result.Result.the-variants.{Ok}
 use Rattle.arch.specs.Walks.{Walk, Seen, over, Agree}
 use Rattle.arch.proofs.Walks.{over-local}
 use Rattle.lookup.specs.Sources.{asked, Kept, Empty}
-use Rattle.machine.specs.Law.{Once, Fresh-once, Steady}
-
--- every pair held was fresh at one of these moments
-abbrev pub Sound : {Key Answer : Type 0} → (Key → Type 0) → ((ℕ → Option ℕ) → Key → Seen Answer) → List (ℕ → Option ℕ) → (Key → Answer → Type 0) → Type 0
-Sound {Key} {Answer} fits fresh since holds = (k : Key) (a : Answer) → fits k → holds k a → Once (λ w. fresh w k .result ≡ Ok a) since
+use Rattle.machine.specs.Law.{Once, Fresh-once, Steady, Sound}
 
 module _ {Key Answer : Type 0} (fits : Key → Type 0) (fresh : (ℕ → Option ℕ) → Key → Seen Answer) where
   -- an empty source is sound at any moment

@@ -1,0 +1,4 @@
+mod Far
+mod Lawful
+mod Sound
+mod Stands
