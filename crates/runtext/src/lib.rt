@@ -13,9 +13,7 @@ use arch::condition::ConditionDebug;
 use arch::condition::ConditionPartialEq;
 use arch::record::BlockKey;
 use arch::record::Word;
-use out::fits;
-use out::judge_run;
-use out::lay_run;
+use out::write_for;
 use scan::fill;
 use scan::judge;
 
@@ -96,9 +94,15 @@ pub fn write(
     ensures unaltered { λ r. ⌜ refused r (λ _. now (text .exit) ≡ now (text .entry)) ⌝ }
     ensures again { λ r. ⌜ made r (λ n. Reads-back (run-of (now (words .entry)) (now (keys .entry)) (now (calls .entry))) (take n (now (text .exit)))) ⌝ }
 {
-    if !fits(words, keys, calls, BYTES.min(text.len())) {
-        return Err(NO_ROOM);
-    }
-    judge_run(words, keys, calls)?;
-    Ok(lay_run(words, keys, calls, text))
+    write_for(
+        Counts {
+            words: words.len(),
+            keys: keys.len(),
+            calls: calls.len(),
+        },
+        words,
+        keys,
+        calls,
+        text,
+    )
 }

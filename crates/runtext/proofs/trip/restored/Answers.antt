@@ -1,9 +1,7 @@
 use mathlib.Core.Path.{refl, sym, subst}
-use mathlib.Core.Logic.{inr}
 use native.Mathlib.Nat.{sub-zero}
-use native.Mathlib.Omega.{arith}
-use lib.ListN.{take}
 use Rattle.std.proofs.shelf.Results.{err-from-errBy}
+use lib.ListN.{take}
 use Rattle.runtext.specs.Runs.{Spells, lent}
 use Rattle.runtext.specs.Writing.{run-of}
 use Rattle.runtext.proofs.Trips.{again}
@@ -16,8 +14,9 @@ returns-in-Break-n c =
     rw (p .1, p .2) (record {
       same = tt;
       written = tt;
-      refused = inr (omega arith, told .refused);
-      complete = λ h short. told .complete (h .spellable) short;
+      refused = told .refused;
+      single = told .single;
+      complete = told .complete;
       unaltered = (told .unaltered, refl, refl, refl);
     })
 
@@ -26,6 +25,6 @@ returns c =
     let told = c .in-Continue-n .ensures tt in
     let p = lent (c .args .words-again .now) (c .args .keys-again .now) (c .args .calls-again .now) in
     let r = run-of (c .args .words .now) (c .args .keys .now) (c .args .calls .now) in
-    let s = subst (λ n. Spells p (take n (c .write .last .text)) r) (sym (sub-zero (c .in-Continue-n .n))) (told .again p (omega arith) .0) in
+    let s = subst (λ n. Spells p (take n (c .write-for .last .text)) r) (sym (sub-zero (c .in-Continue-n .n))) (told .readable, sym (told .written .text)) in
     let a = again (c .args .words-again .now) (c .args .keys-again .now) (c .args .calls-again .now) (c .read .last .words) (c .read .last .keys) (c .read .last .calls) (c .read .result) s (c .read .ensures .accepted) (c .read .ensures .complete) in
-    rw (a .1) (record { same = a .2; written = (c .in-Continue-n .n, told .written); refused = tt; complete = tt; unaltered = tt })
+    rw (a .1) (record { same = a .2; written = (c .in-Continue-n .n, told .written); refused = tt; single = tt; complete = tt; unaltered = tt })
