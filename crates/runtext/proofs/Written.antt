@@ -35,6 +35,14 @@ written r before after n s l =
 pub reads-back : (r : Run) (text : List ℕ) → Spellable r → text ≡ spell r → Reads-back r text
 reads-back r text s e = λ p h. ((record { spellable = s; words = h .0; keys = h .1; calls = h .2 }, sym e), λ q h. text-same q r (h .1 ∙ e))
 
+-- what the writer tells of a run, its buffer and the places of a reader
+abbrev pub Told : ℕ → Run → Result ℕ Refusal → Counts → Type 0
+Told room r o p =
+    made o (λ _. Readable p r)
+    × refused o (Refused-in room p (spell r))
+    × refused o (λ e. (d : Refusal) → Refused-in room p (spell r) d → d ≡ e)
+    × refused o (λ _. Readable p r → length (spell r) ≤ room → ⊥)
+
 -- what is written says the run
 pub says-run : (r : Run) (before after : List ℕ) (o : Result ℕ Refusal) → made o (Written r before after) → made o (λ n. Reads-back r (take n after))
 says-run r before after (Ok n) w = reads-back r (take n after) (w .spellable) (w .text)

@@ -38,6 +38,18 @@ pub struct Counts {
     pub calls: usize,
 }
 
+impl Counts {
+    pub(crate) fn of(words: &[Word], keys: &[BlockKey], calls: &[Call]) -> Counts
+        ensures { λ r. ⌜ r ≡ lent (now (words .entry)) (now (keys .entry)) (now (calls .entry)) ⌝ }
+    {
+        Counts {
+            words: words.len(),
+            keys: keys.len(),
+            calls: calls.len(),
+        }
+    }
+}
+
 // Why a text is refused, and on which line, from 1.
 #[derive(Clone, Copy, PartialEq, Eq, Debug)]
 pub struct Refusal {
@@ -68,14 +80,7 @@ pub fn read(
     if text.len() > BYTES {
         return Err(NO_ROOM);
     }
-    judge(
-        text,
-        Counts {
-            words: words.len(),
-            keys: keys.len(),
-            calls: calls.len(),
-        },
-    )?;
+    judge(text, Counts::of(words, keys, calls))?;
     Ok(fill(text, words, keys, calls))
 }
 
@@ -94,15 +99,6 @@ pub fn write(
     ensures unaltered { λ r. ⌜ refused r (λ _. now (text .exit) ≡ now (text .entry)) ⌝ }
     ensures again { λ r. ⌜ made r (λ n. Reads-back (run-of (now (words .entry)) (now (keys .entry)) (now (calls .entry))) (take n (now (text .exit)))) ⌝ }
 {
-    write_for(
-        Counts {
-            words: words.len(),
-            keys: keys.len(),
-            calls: calls.len(),
-        },
-        words,
-        keys,
-        calls,
-        text,
-    )
+    let places = Counts::of(words, keys, calls);
+    write_for(places, words, keys, calls, text)
 }

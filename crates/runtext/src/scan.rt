@@ -83,16 +83,17 @@ pub fn judge(text: &[u8], places: Counts) -> Result<(), Refusal>
 }
 
 // Puts the run that has this text into the places that are lent.
-pub fn fill(text: &[u8], words: &mut [Word], keys: &mut [BlockKey], calls: &mut [Call]) -> Counts
+pub fn fill(
+    text: &[u8],
+    words: &mut [Word],
+    keys: &mut [BlockKey],
+    calls: &mut [Call],
+) -> Counts
     requires short { ⌜ length (now text) ≤ byte-limit ⌝ }
     requires accepted { ⌜ ((q : Run) × Spells (lent (now words) (now keys) (now calls)) (now text) q) ⌝ }
     ensures { λ r. ⌜ Filled (now (text .entry)) (now (words .entry)) (now (keys .entry)) (now (calls .entry)) (now (words .exit)) (now (keys .exit)) (now (calls .exit)) r ⌝ }
 {
-    let places = Counts {
-        words: words.len(),
-        keys: keys.len(),
-        calls: calls.len(),
-    };
+    let places = Counts::of(words, keys, calls);
     let mut found = NO_LINES;
     let Some(mut rest) = after_header(text) else {
         return found;

@@ -61,11 +61,7 @@ pub fn restored(
     ensures complete { λ r. ⌜ refused r (λ _. Readable (lent (now («words_again» .entry)) (now («keys_again» .entry)) (now («calls_again» .entry))) (run-of (now (words .entry)) (now (keys .entry)) (now (calls .entry))) → length (spell (run-of (now (words .entry)) (now (keys .entry)) (now (calls .entry)))) ≤ length (now (text .entry)) → ⊥) ⌝ }
     ensures unaltered { λ r. ⌜ refused r (λ _. (now (text .exit) ≡ now (text .entry)) × (now («words_again» .exit) ≡ now («words_again» .entry)) × (now («keys_again» .exit) ≡ now («keys_again» .entry)) × (now («calls_again» .exit) ≡ now («calls_again» .entry))) ⌝ }
 {
-    let places = Counts {
-        words: words_again.len(),
-        keys: keys_again.len(),
-        calls: calls_again.len(),
-    };
+    let places = Counts::of(words_again, keys_again, calls_again);
     let n = write_for(places, words, keys, calls, text)?;
     read(&text[0..n], words_again, keys_again, calls_again)
 }

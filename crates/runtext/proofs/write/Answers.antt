@@ -1,16 +1,20 @@
+use mathlib.Core.Path.{subst}
+use lib.ListN.{length}
 use Rattle.runtext.specs.Writing.{run-of}
-use Rattle.runtext.proofs.Written.{own-places, says-run}
+use Rattle.runtext.proofs.Written.{Told, own-places, says-run}
 use Rattle.runtext.proofs.write.Needs as need
 
 pub returns : need.returns
 returns c =
     let r = run-of (c .args .words .now) (c .args .keys .now) (c .args .calls .now) in
-    let told = c .write-for .ensures in
+    let room = length (c .args .text .now) in
+    let w = c .write-for .ensures in
+    let told = subst (Told room r (c .write-for .result)) (c .of-places .ensures) (w .readable, w .refused, w .single, w .complete) in
     record {
-      written = told .written;
-      refused = told .refused;
-      single = told .single;
-      complete = own-places r _ (c .write-for .result) (told .complete);
-      unaltered = told .unaltered;
-      again = says-run r _ _ (c .write-for .result) (told .written);
+      written = w .written;
+      refused = told .1;
+      single = told .2;
+      complete = own-places r room (c .write-for .result) (told .3);
+      unaltered = w .unaltered;
+      again = says-run r _ _ (c .write-for .result) (w .written);
     }
