@@ -4,7 +4,7 @@ ghost use Prim.Native.Nat.{ℕ, _≤_};
 ghost use lib.ListN.{length};
 ghost use Rattle.std.specs.Vec.{made, refused};
 ghost use Rattle.runtext.specs.Passes.{Filled};
-ghost use Rattle.runtext.specs.Runs.{Readable, lent, spell};
+ghost use Rattle.runtext.specs.Runs.{Readable, Run, Spells, lent, spell};
 ghost use Rattle.runtext.specs.Writing.{Refused-in, Reopened, Restored, Written, run-of};
 use crate::Counts;
 use crate::NO_ROOM;
@@ -29,6 +29,7 @@ pub fn reopened(
     ensures filled { λ r. ⌜ made r (λ _. (m : Counts) × Filled (now (text .entry)) (now (words .entry)) (now (keys .entry)) (now (calls .entry)) (now (words .exit)) (now (keys .exit)) (now (calls .exit)) m) ⌝ }
     ensures refused { λ r. ⌜ refused r (λ e. Refused-in (length (now (copy .entry))) (lent (now (words .entry)) (now (keys .entry)) (now (calls .entry))) (now (text .entry)) e) ⌝ }
     ensures single { λ r. ⌜ refused r (λ e. (d : Refusal) → Refused-in (length (now (copy .entry))) (lent (now (words .entry)) (now (keys .entry)) (now (calls .entry))) (now (text .entry)) d → d ≡ e) ⌝ }
+    ensures complete { λ r. ⌜ refused r (λ _. (q : Run) → Spells (lent (now (words .entry)) (now (keys .entry)) (now (calls .entry))) (now (text .entry)) q → length (now (text .entry)) ≤ length (now (copy .entry)) → ⊥) ⌝ }
     ensures unaltered { λ r. ⌜ refused r (λ _. (now (words .exit) ≡ now (words .entry)) × (now (keys .exit) ≡ now (keys .entry)) × (now (calls .exit) ≡ now (calls .entry)) × (now (copy .exit) ≡ now (copy .entry))) ⌝ }
 {
     if copy.len() < text.len() {

@@ -1,5 +1,6 @@
-use mathlib.Core.Path.{subst}
+use mathlib.Core.Path.{_≡_, subst}
 use lib.ListN.{length}
+use Rattle.runtext.specs.Runs.{counts}
 use Rattle.runtext.specs.Writing.{run-of}
 use Rattle.runtext.proofs.Written.{Told, own-places, says-run}
 use Rattle.runtext.proofs.write.Needs as need
@@ -9,7 +10,8 @@ returns c =
     let r = run-of (c .args .words .now) (c .args .keys .now) (c .args .calls .now) in
     let room = length (c .args .text .now) in
     let w = c .write-for .ensures in
-    let told = subst (Told room r (c .write-for .result)) (c .of-places .ensures) (w .readable, w .refused, w .single, w .complete) in
+    let own : c .of-places .result ≡ counts r = c .of-places .ensures in
+    let told = subst (Told room r (c .write-for .result)) own (w .readable, w .refused, w .single, w .complete) in
     record {
       written = w .written;
       refused = told .1;

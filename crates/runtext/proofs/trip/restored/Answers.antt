@@ -1,4 +1,4 @@
-use mathlib.Core.Path.{refl, sym, subst}
+use mathlib.Core.Path.{_≡_, refl, sym, subst}
 use native.Mathlib.Nat.{sub-zero}
 use lib.ListN.{length, take}
 use Rattle.std.proofs.shelf.Results.{err-from-errBy}
@@ -13,7 +13,8 @@ pub returns-in-Break-n : need.returns-in-Break-n
 returns-in-Break-n c =
     let w = c .in-Break-n .ensures tt in
     let r = run-of (c .args .words .now) (c .args .keys .now) (c .args .calls .now) in
-    let told = subst (Told (length (c .args .text .now)) r (Err (c .in-Break-n .field-0 .0))) (c .of-places .ensures) (tt, w .refused, w .single, w .complete) in
+    let is : c .of-places .result ≡ lent (c .args .words-again .now) (c .args .keys-again .now) (c .args .calls-again .now) = c .of-places .ensures in
+    let told = subst (Told (length (c .args .text .now)) r (Err (c .in-Break-n .field-0 .0))) is (tt, w .refused, w .single, w .complete) in
     let p = err-from-errBy (c .from-residual .result) (c .from-residual .ensures .1) in
     rw (p .1, p .2) (record {
       same = tt;
