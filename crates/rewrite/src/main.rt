@@ -13,9 +13,6 @@ use std::error::AnyError;
 use std::io;
 use std::io::Write;
 
-#[cfg(test)]
-mod tests;
-
 // The line of a refusal, as a listing has it.
 fn refused(rt: &LibcRuntime, refusal: Refusal) -> io::Result<()> {
     let Refusal { condition, line } = refusal;
