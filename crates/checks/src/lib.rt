@@ -5,6 +5,8 @@ type Case = (&'static str, &'static str);
 
 #[cfg(test)]
 mod accesses;
+#[cfg(test)]
+mod texts;
 
 #[cfg(test)]
 mod tests {

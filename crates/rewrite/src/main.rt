@@ -13,9 +13,6 @@ use runtext::trip::reopened;
 use std::error::AnyError;
 use std::io::Write;
 
-#[cfg(test)]
-mod tests;
-
 fn rewrite(rt: &LibcRuntime) -> Result<(), AnyError> {
     let heap = rt.alloc();
     let mut text = vec![in heap; 0u8; BYTES]?;

@@ -16,7 +16,7 @@ use Rattle.runtext.specs.declared.Counts.{Counts}
 use Rattle.runtext.specs.declared.line.Line.{Line}
 use Rattle.runtext.specs.Lines.{letter, fields, kind-of, spell-line, Sound}
 use Rattle.runtext.specs.Passes.{Steps, one-more}
-use Rattle.runtext.specs.Runs.{Run, lines, header, spell, counts, Spellable}
+use Rattle.runtext.specs.Runs.{Run, lines, header, spell, Readable}
 use Rattle.runtext.specs.Verdicts.{Full, Late, Blames, Bad-line, no-lines, first-field}
 use Rattle.runtext.specs.Writing.{Faulty}
 use Rattle.runtext.proofs.Cuts.{head-same, none-some, some-same}
@@ -105,22 +105,22 @@ blames : (p found : Counts) (l : Line) (x : List ℕ) (c : Condition) → Faulty
 blames p found l x c (inl f) = inl (f .0, (kind-of l, sym (field-is l x), f .1))
 blames p found l x c (inr f) = inr (f .0, λ o. f .1 (subst (Full p found) (letter-same (o .0) (kind-of l) (head-same (o .1 ∙ field-is l x))) (o .2)))
 
--- the lines of a run before i make up the run q, and may come so
-pub record Going (r : Run) (i : ℕ) (found : Counts) (q : Run) : Type 0 where
+-- the lines of a run before i make up the run q, and may come so where there are these places
+pub record Going (p : Counts) (r : Run) (i : ℕ) (found : Counts) (q : Run) : Type 0 where
   pub within : i ≤ length (lines r)
   pub before : lines q ≡ take i (lines r)
-  pub sofar : Sofar (counts r) (spell r) found (joined spell-line (drop i (lines r))) q
+  pub sofar : Sofar p (spell r) found (joined spell-line (drop i (lines r))) q
 
-pub set-out : (r : Run) → Going r 0 no-lines empty
-set-out r = record { within = omega arith; before = refl; sofar = start (counts r) (spell r) (joined spell-line (lines r)) (spelt-none r) }
+pub set-out : (p : Counts) (r : Run) → Going p r 0 no-lines empty
+set-out p r = record { within = omega arith; before = refl; sofar = start p (spell r) (joined spell-line (lines r)) (spelt-none r) }
 
-module _ {r : Run} {i : ℕ} {found : Counts} {q : Run} (g : Going r i found q) where
+module _ {p : Counts} {r : Run} {i : ℕ} {found : Counts} {q : Run} (g : Going p r i found q) where
   pub counted : found .words + found .keys + found .calls ≡ i
   counted =
       omega (arith, lines-counted q, ap length (g .before), length-take-le i (lines r) (g .within), ap (λ n. n .words) (g .sofar .counted), ap (λ n. n .keys) (g .sofar .counted), ap (λ n. n .calls) (g .sofar .counted))
 
-  pub arrived : length (lines r) ≤ i → Spellable r
-  arrived h = subst Spellable (lines-same q r (g .before ∙ take-all i (lines r) h)) (g .sofar .readable .spellable)
+  pub arrived : length (lines r) ≤ i → Readable p r
+  arrived h = subst (Readable p) (lines-same q r (g .before ∙ take-all i (lines r) h)) (g .sofar .readable)
 
   module _ {l : Line} (h : Here (lines r) i l) where
     ahead : lines r ≡ lines q ++ (l ∷ drop (i + 1) (lines r))
@@ -129,7 +129,7 @@ module _ {r : Run} {i : ℕ} {found : Counts} {q : Run} (g : Going r i found q) 
     in-line : Late found (kind-of l) → ⊥
     in-line = subst (λ n. Late n (kind-of l) → ⊥) (sym (g .sofar .counted)) (in-order r q l (drop (i + 1) (lines r)) ahead)
 
-    pub go-further : length (spell r) ≤ 65536 → Sound l → (Full (counts r) found (kind-of l) → ⊥) → Going r (i + 1) (one-more found l) (add q l)
+    pub go-further : length (spell r) ≤ 65536 → Sound l → (Full p found (kind-of l) → ⊥) → Going p r (i + 1) (one-more found l) (add q l)
     go-further short ok room =
         let order = in-order r q l (drop (i + 1) (lines r)) ahead in
         record {
@@ -139,22 +139,22 @@ module _ {r : Run} {i : ℕ} {found : Counts} {q : Run} (g : Going r i found q) 
         }
 
     -- a line that may not come there is the first bad one
-    module _ {c : Condition} (f : Faulty (counts r) found l c) where
-      told : Steps (counts r) found (joined spell-line (drop i (lines r))) None
+    module _ {c : Condition} (f : Faulty p found l c) where
+      told : Steps p found (joined spell-line (drop i (lines r))) None
       told x v e =
           let same = line-same (x .0) l (x .1) (joined spell-line (drop (i + 1) (lines r))) (e ∙ spelt-left h) .0 in
           ⊎-elim
-          (λ a. v .1 .0 (subst (λ m. Full (counts r) found (kind-of m)) (sym same) (a .1)))
+          (λ a. v .1 .0 (subst (λ m. Full p found (kind-of m)) (sym same) (a .1)))
           (λ a. a .2 (subst Sound same (v .0)))
           f
 
       some : 0 < length (joined spell-line (drop i (lines r)))
       some = omega (arith, line-long h)
 
-      pub stopped : Bad-line (counts r) (spell r) (record { condition = c; line = i + 2 })
+      pub stopped : Bad-line p (spell r) (record { condition = c; line = i + 2 })
       stopped =
           bad-line (g .sofar) some told (record { condition = c; line = i + 2 }) (omega (arith, counted))
-          (subst (λ t. Blames (counts r) found (first-field t) c) (sym (spelt-left h)) (blames (counts r) found l (joined spell-line (drop (i + 1) (lines r))) c f))
+          (subst (λ t. Blames p found (first-field t) c) (sym (spelt-left h)) (blames p found l (joined spell-line (drop (i + 1) (lines r))) c f))
 
-      pub no-text : Spellable r → ⊥
-      no-text s = no-run (g .sofar) some told r (record { spellable = s; words = omega arith; keys = omega arith; calls = omega arith }, refl)
+      pub no-text : Readable p r → ⊥
+      no-text h = no-run (g .sofar) some told r (h, refl)

@@ -22,8 +22,8 @@ back p text copy copy′ q (Ok n) s h w never = (n, refl, record { long = w .lon
 back p text copy copy′ q (Err e) s h w never = absurd (never (s .0 .spellable) (omega (arith, ap length (s .1))))
 
 -- and the text of a run is read as that run
-pub again : {r : Run} {text : List ℕ} (ws : List Word) (ks : List BlockKey) (cs : List Call) (ws′ : List Word) (ks′ : List BlockKey) (cs′ : List Call) (o : Result Counts Refusal) → Spells (lent ws ks cs) text r → made o (Filled text ws ks cs ws′ ks′ cs′) → refused o (λ _. (q : Run) → Spells (lent ws ks cs) text q → ⊥) → (m : Counts) × (o ≡ Ok m) × Restored r ws′ ks′ cs′ m
+pub again : {r : Run} {text : List ℕ} (ws : List Word) (ks : List BlockKey) (cs : List Call) (ws′ : List Word) (ks′ : List BlockKey) (cs′ : List Call) (o : Result Counts Refusal) → Spells (lent ws ks cs) text r → made o (Filled text ws ks cs ws′ ks′ cs′) → refused o (λ _. (q : Run) → Spells (lent ws ks cs) text q → ⊥) → (m : Counts) × (o ≡ Ok m) × Restored r ws ks cs ws′ ks′ cs′ m
 again {r} ws ks cs ws′ ks′ cs′ (Ok m) s f never =
     let same = sym (f .only r s) in
-    (m, refl, record { counted = f .counted ∙ ap counts same; same = same })
+    (m, refl, record { counted = f .counted ∙ ap counts same; same = same; words = f .words; keys = f .keys; calls = f .calls })
 again {r} ws ks cs ws′ ks′ cs′ (Err e) s f never = absurd (never r s)

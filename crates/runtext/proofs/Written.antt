@@ -10,9 +10,12 @@ use Rattle.arch.specs.declared.condition.Condition.the-variants.{TooMuch}
 use Rattle.std.proofs.shelf.Lists.{take-at, drop-at}
 use Rattle.std.proofs.shelf.Tests.{le-ltb}
 use Rattle.std.specs.Orderings.{When}
+use Rattle.std.specs.Vec.{made, refused}
+use Rattle.std.specs.declared.result.Result.{Result}
+use Rattle.std.specs.declared.result.Result.the-variants.{Ok, Err}
 use Rattle.runtext.specs.declared.Counts.{Counts}
 use Rattle.runtext.specs.declared.Refusal.{Refusal}
-use Rattle.runtext.specs.Runs.{Run, spell, Spellable}
+use Rattle.runtext.specs.Runs.{Run, spell, counts, Spellable, Readable}
 use Rattle.runtext.specs.Verdicts.{Refused}
 use Rattle.runtext.specs.Writing.{Laid, Written, Refused-in, Reads-back}
 use Rattle.runtext.proofs.OneRefusal.{one-refusal}
@@ -31,6 +34,24 @@ written r before after n s l =
 
 pub reads-back : (r : Run) (text : List ℕ) → Spellable r → text ≡ spell r → Reads-back r text
 reads-back r text s e = λ p h. ((record { spellable = s; words = h .0; keys = h .1; calls = h .2 }, sym e), λ q h. text-same q r (h .1 ∙ e))
+
+-- what the writer tells of a run, its buffer and the places of a reader
+abbrev pub Told : ℕ → Run → Result ℕ Refusal → Counts → Type 0
+Told room r o p =
+    made o (λ _. Readable p r)
+    × refused o (Refused-in room p (spell r))
+    × refused o (λ e. (d : Refusal) → Refused-in room p (spell r) d → d ≡ e)
+    × refused o (λ _. Readable p r → length (spell r) ≤ room → ⊥)
+
+-- what is written says the run
+pub says-run : (r : Run) (before after : List ℕ) (o : Result ℕ Refusal) → made o (Written r before after) → made o (λ n. Reads-back r (take n after))
+says-run r before after (Ok n) w = reads-back r (take n after) (w .spellable) (w .text)
+says-run r before after (Err e) w = tt
+
+-- a run that has a text is readable with a place for each of its records
+pub own-places : (r : Run) (room : ℕ) (o : Result ℕ Refusal) → refused o (λ _. Readable (counts r) r → length (spell r) ≤ room → ⊥) → refused o (λ _. Spellable r → length (spell r) ≤ room → ⊥)
+own-places r room (Ok n) never = tt
+own-places r room (Err e) never = λ s. never (record { spellable = s; words = omega arith; keys = omega arith; calls = omega arith })
 
 -- a text that the buffer has room for is refused as it is by reading
 pub refused-in : (room : ℕ) (p : Counts) (text : List ℕ) (e : Refusal) → length text ≤ room → Refused p text e → Refused-in room p text e

@@ -62,11 +62,10 @@ pub record Reopened (text before after : List ℕ) (n : ℕ) : Type 0 where
   pub same : take n after ≡ text
   pub rest : drop n after ≡ drop n before
 
--- the places after a run was written out and read again: the first n of them have that run
-pub record Restored (r : Run) (ws : List Word) (ks : List BlockKey) (cs : List Call) (n : Counts) : Type 0 where
+-- the places after a run was written out and read again: the first n of them have that run, and the others are as they were
+pub record Restored (r : Run) (ws : List Word) (ks : List BlockKey) (cs : List Call) (ws′ : List Word) (ks′ : List BlockKey) (cs′ : List Call) (n : Counts) : Type 0 where
   pub counted : n ≡ counts r
-  pub same : run-in ws ks cs n ≡ r
-
--- the refusal of a run on that way: for want of places first, on line 1, and then by the writer
-abbrev pub Unrestored : ℕ → Counts → Run → Refusal → Type 0
-Unrestored room p r e = ((Has-places p r → ⊥) × (e .condition ≡ TooMuch) × (e .line ≡ 1)) ⊎ (Has-places p r × Unwritten room r e)
+  pub same : run-in ws′ ks′ cs′ n ≡ r
+  pub words : drop (n .words) ws′ ≡ drop (n .words) ws
+  pub keys : drop (n .keys) ks′ ≡ drop (n .keys) ks
+  pub calls : drop (n .calls) cs′ ≡ drop (n .calls) cs

@@ -4,7 +4,7 @@ ghost use Rattle.std.specs.Options.{mapped};
 ghost use Rattle.runtext.specs.Reading.{Lacks, Cut};
 
 // What stands before the first byte `at`, and what stands after it, if it is there.
-pub fn cut(bytes: &[u8], at: u8) -> (&[u8], Option<&[u8]>)
+pub(crate) fn cut(bytes: &[u8], at: u8) -> (&[u8], Option<&[u8]>)
     ensures lacks { λ r. ⌜ Lacks at (now (r .0)) ⌝ }
     ensures parts { λ r. ⌜ Cut at (now (bytes .entry)) (now (r .0)) (mapped now (r .1)) ⌝ }
 {

@@ -18,7 +18,7 @@ use arch::call::Access;
 use arch::call::Call;
 use arch::call::SourceName;
 
-pub const FIRST_LINE: &[u8] = b"RUN\t1\n";
+pub(crate) const FIRST_LINE: &[u8] = b"RUN\t1\n";
 
 fn letter_of(kind: Kind) -> u8
     ensures { λ r. ⌜ r ≡ letter kind ⌝ }
@@ -138,7 +138,7 @@ fn lay_fields(line: Line, text: &mut [u8], at: usize) -> usize
     }
 }
 
-pub fn lay_line(line: Line, text: &mut [u8], at: usize) -> usize
+pub(crate) fn lay_line(line: Line, text: &mut [u8], at: usize) -> usize
     requires { ⌜ at + length (spell-line line) ≤ length (now text) ⌝ }
     ensures { λ r. ⌜ Laid at (spell-line line) (now (text .entry)) (now (text .exit)) r ⌝ }
 {
@@ -149,7 +149,7 @@ pub fn lay_line(line: Line, text: &mut [u8], at: usize) -> usize
 }
 
 // The first line, at the buffer's start.
-pub fn lay_header(text: &mut [u8]) -> usize
+pub(crate) fn lay_header(text: &mut [u8]) -> usize
     requires { ⌜ length header ≤ length (now text) ⌝ }
     ensures { λ r. ⌜ Laid 0 header (now (text .entry)) (now (text .exit)) r ⌝ }
 {

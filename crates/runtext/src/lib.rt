@@ -13,9 +13,7 @@ use arch::condition::ConditionDebug;
 use arch::condition::ConditionPartialEq;
 use arch::record::BlockKey;
 use arch::record::Word;
-use out::fits;
-use out::judge_run;
-use out::lay_run;
+use out::write_for;
 use scan::fill;
 use scan::judge;
 
@@ -38,6 +36,18 @@ pub struct Counts {
     pub words: usize,
     pub keys: usize,
     pub calls: usize,
+}
+
+impl Counts {
+    pub(crate) fn of(words: &[Word], keys: &[BlockKey], calls: &[Call]) -> Counts
+        ensures { λ r. ⌜ r ≡ lent (now (words .entry)) (now (keys .entry)) (now (calls .entry)) ⌝ }
+    {
+        Counts {
+            words: words.len(),
+            keys: keys.len(),
+            calls: calls.len(),
+        }
+    }
 }
 
 // Why a text is refused, and on which line, from 1.
@@ -70,14 +80,7 @@ pub fn read(
     if text.len() > BYTES {
         return Err(NO_ROOM);
     }
-    judge(
-        text,
-        Counts {
-            words: words.len(),
-            keys: keys.len(),
-            calls: calls.len(),
-        },
-    )?;
+    judge(text, Counts::of(words, keys, calls))?;
     Ok(fill(text, words, keys, calls))
 }
 
@@ -96,9 +99,6 @@ pub fn write(
     ensures unaltered { λ r. ⌜ refused r (λ _. now (text .exit) ≡ now (text .entry)) ⌝ }
     ensures again { λ r. ⌜ made r (λ n. Reads-back (run-of (now (words .entry)) (now (keys .entry)) (now (calls .entry))) (take n (now (text .exit)))) ⌝ }
 {
-    if !fits(words, keys, calls, BYTES.min(text.len())) {
-        return Err(NO_ROOM);
-    }
-    judge_run(words, keys, calls)?;
-    Ok(lay_run(words, keys, calls, text))
+    let places = Counts::of(words, keys, calls);
+    write_for(places, words, keys, calls, text)
 }

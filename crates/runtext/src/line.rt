@@ -12,16 +12,16 @@ use arch::call::SourceName;
 use arch::record::BlockKey;
 use arch::record::Word;
 
-pub const TAB: u8 = 9;
+pub(crate) const TAB: u8 = 9;
 
-pub const LINE_END: u8 = 10;
+pub(crate) const LINE_END: u8 = 10;
 
 // Blocks have keys of five bits.
 const KEYS: u64 = 32;
 
 // What a line after the first says.
 #[derive(Clone, Copy)]
-pub enum Line {
+pub(crate) enum Line {
     Doubleword(Word),
     Key(BlockKey),
     Call(Call),
@@ -29,14 +29,14 @@ pub enum Line {
 
 // What its first field names.
 #[derive(Clone, Copy)]
-pub enum Kind {
+pub(crate) enum Kind {
     Doubleword,
     Key,
     Call(Verb),
 }
 
 #[derive(Clone, Copy)]
-pub enum Verb {
+pub(crate) enum Verb {
     LoadControl,
     LoadAccess,
     LoadMode,
@@ -60,7 +60,7 @@ fn verb_of(call: Call) -> Verb
     }
 }
 
-pub fn kind_of(line: Line) -> Kind
+pub(crate) fn kind_of(line: Line) -> Kind
     ensures { λ r. ⌜ r ≡ kind-of line ⌝ }
 {
     match line {
@@ -71,7 +71,7 @@ pub fn kind_of(line: Line) -> Kind
 }
 
 // Whether a line holds what the format can spell.
-pub fn sound(line: Line) -> bool
+pub(crate) fn sound(line: Line) -> bool
     ensures { λ r. ⌜ Decides r (Sound line) ⌝ }
 {
     match line {
@@ -82,7 +82,7 @@ pub fn sound(line: Line) -> bool
 }
 
 // The one byte of a field that has no more.
-pub fn lone(field: &[u8]) -> Option<u8>
+pub(crate) fn lone(field: &[u8]) -> Option<u8>
     ensures { λ r. ⌜ Reads r (λ _. Unit {0}) (λ b. b ∷ []) (now (field .entry)) ⌝ }
 {
     if field.len() == 1 {
@@ -93,7 +93,7 @@ pub fn lone(field: &[u8]) -> Option<u8>
 }
 
 // The kind that a letter names.
-pub fn kind_named(b: u8) -> Option<Kind>
+pub(crate) fn kind_named(b: u8) -> Option<Kind>
     ensures { λ r. ⌜ Reads r (λ _. Unit {0}) letter b ⌝ }
 {
     match b {
@@ -223,7 +223,7 @@ fn call(verb: Verb, bytes: &[u8]) -> Option<Call>
 }
 
 // The line of a kind that has these fields after its first.
-pub fn line_of(kind: Kind, bytes: &[u8]) -> Option<Line>
+pub(crate) fn line_of(kind: Kind, bytes: &[u8]) -> Option<Line>
     ensures { λ r. ⌜ Reads r (λ l. Sound l × (kind-of l ≡ kind)) fields (now (bytes .entry)) ⌝ }
 {
     match kind {

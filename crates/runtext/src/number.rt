@@ -19,7 +19,7 @@ fn digit(b: u8) -> Option<u8>
 }
 
 // The number that a whole field spells.
-pub fn number(field: &[u8]) -> Option<u64>
+pub(crate) fn number(field: &[u8]) -> Option<u64>
     ensures { λ r. ⌜ Reads r (λ n. n < 2 ^ 64) numeral (now (field .entry)) ⌝ }
 {
     if field.len() == 0 {

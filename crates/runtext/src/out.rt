@@ -1,4 +1,4 @@
-// The passes over a run on its way out: the first two judge it, the third lays its text into a
+// A run on its way out, in three passes: the first two judge it, the third lays its text into a
 // buffer.
 ghost use mathlib.Core.Path.{_≡_};
 ghost use Prim.Native.Nat.{_≤_};
@@ -6,12 +6,15 @@ ghost use lib.ListN.{length};
 ghost use Rattle.std.specs.Options.{Cases as BySome};
 ghost use Rattle.std.specs.Orderings.{Decides};
 ghost use Rattle.std.specs.Results.{Cases};
+ghost use Rattle.std.specs.Vec.{made, refused};
 ghost use Rattle.std.specs.shelf.Maps.{nth};
 ghost use Rattle.runtext.specs.Lines.{kind-of, Sound};
-ghost use Rattle.runtext.specs.Runs.{lines, spell, counts, Spellable, byte-limit};
+ghost use Rattle.runtext.specs.Runs.{lines, spell, Readable, byte-limit};
 ghost use Rattle.runtext.specs.Verdicts.{Full, Bad-line};
-ghost use Rattle.runtext.specs.Writing.{Laid, Faulty, run-of};
+ghost use Rattle.runtext.specs.Writing.{Laid, Faulty, Refused-in, Written, run-of};
+use crate::BYTES;
 use crate::Counts;
+use crate::NO_ROOM;
 use crate::Refusal;
 use crate::lay::FIRST_LINE;
 use crate::lay::lay_header;
@@ -60,7 +63,7 @@ fn fault(places: Counts, found: Counts, line: Line) -> Option<Condition>
 }
 
 // Whether a run's text has no more bytes than these.
-pub fn fits(words: &[Word], keys: &[BlockKey], calls: &[Call], most: usize) -> bool
+fn fits(words: &[Word], keys: &[BlockKey], calls: &[Call], most: usize) -> bool
     requires { ⌜ most ≤ byte-limit ⌝ }
     ensures { λ r. ⌜ Decides r (length (spell (run-of (now (words .entry)) (now (keys .entry)) (now (calls .entry)))) ≤ most) ⌝ }
 {
@@ -76,16 +79,17 @@ pub fn fits(words: &[Word], keys: &[BlockKey], calls: &[Call], most: usize) -> b
     size <= most
 }
 
-// Whether a run has a text, where that is no longer than a text may be.
-pub fn judge_run(words: &[Word], keys: &[BlockKey], calls: &[Call]) -> Result<(), Refusal>
+// Whether a run has a text that a reader with these places accepts, where it is no longer than a
+// text may be.
+fn judge_run(
+    words: &[Word],
+    keys: &[BlockKey],
+    calls: &[Call],
+    places: Counts,
+) -> Result<(), Refusal>
     requires { ⌜ length (spell (run-of (now words) (now keys) (now calls))) ≤ byte-limit ⌝ }
-    ensures { λ r. ⌜ Cases r (λ _. Spellable (run-of (now (words .entry)) (now (keys .entry)) (now (calls .entry)))) (λ e. Bad-line (counts (run-of (now (words .entry)) (now (keys .entry)) (now (calls .entry)))) (spell (run-of (now (words .entry)) (now (keys .entry)) (now (calls .entry)))) e × (Spellable (run-of (now (words .entry)) (now (keys .entry)) (now (calls .entry))) → ⊥)) ⌝ }
+    ensures { λ r. ⌜ Cases r (λ _. Readable places (run-of (now (words .entry)) (now (keys .entry)) (now (calls .entry)))) (λ e. Bad-line places (spell (run-of (now (words .entry)) (now (keys .entry)) (now (calls .entry)))) e × (Readable places (run-of (now (words .entry)) (now (keys .entry)) (now (calls .entry))) → ⊥)) ⌝ }
 {
-    let places = Counts {
-        words: words.len(),
-        keys: keys.len(),
-        calls: calls.len(),
-    };
     let mut found = NO_LINES;
     let mut index = 0;
     while let Some(line) = line_at(words, keys, calls, index) {
@@ -102,7 +106,7 @@ pub fn judge_run(words: &[Word], keys: &[BlockKey], calls: &[Call]) -> Result<()
 }
 
 // Lays a run's text at the start of a buffer.
-pub fn lay_run(words: &[Word], keys: &[BlockKey], calls: &[Call], text: &mut [u8]) -> usize
+fn lay_run(words: &[Word], keys: &[BlockKey], calls: &[Call], text: &mut [u8]) -> usize
     requires { ⌜ length (spell (run-of (now words) (now keys) (now calls))) ≤ length (now text) ⌝ }
     ensures { λ r. ⌜ Laid 0 (spell (run-of (now (words .entry)) (now (keys .entry)) (now (calls .entry)))) (now (text .entry)) (now (text .exit)) r ⌝ }
 {
@@ -113,4 +117,27 @@ pub fn lay_run(words: &[Word], keys: &[BlockKey], calls: &[Call], text: &mut [u8
         index += 1;
     }
     at
+}
+
+// Writes the text of a run into the first bytes of a buffer, where that has room for it and a reader
+// with these places accepts it, and says how many those are. Otherwise nothing is altered.
+pub(crate) fn write_for(
+    places: Counts,
+    words: &[Word],
+    keys: &[BlockKey],
+    calls: &[Call],
+    text: &mut [u8],
+) -> Result<usize, Refusal>
+    ensures written { λ r. ⌜ made r (λ n. Written (run-of (now (words .entry)) (now (keys .entry)) (now (calls .entry))) (now (text .entry)) (now (text .exit)) n) ⌝ }
+    ensures readable { λ r. ⌜ made r (λ _. Readable places (run-of (now (words .entry)) (now (keys .entry)) (now (calls .entry)))) ⌝ }
+    ensures refused { λ r. ⌜ refused r (λ e. Refused-in (length (now (text .entry))) places (spell (run-of (now (words .entry)) (now (keys .entry)) (now (calls .entry)))) e) ⌝ }
+    ensures single { λ r. ⌜ refused r (λ e. (d : Refusal) → Refused-in (length (now (text .entry))) places (spell (run-of (now (words .entry)) (now (keys .entry)) (now (calls .entry)))) d → d ≡ e) ⌝ }
+    ensures complete { λ r. ⌜ refused r (λ _. Readable places (run-of (now (words .entry)) (now (keys .entry)) (now (calls .entry))) → length (spell (run-of (now (words .entry)) (now (keys .entry)) (now (calls .entry)))) ≤ length (now (text .entry)) → ⊥) ⌝ }
+    ensures unaltered { λ r. ⌜ refused r (λ _. now (text .exit) ≡ now (text .entry)) ⌝ }
+{
+    if !fits(words, keys, calls, BYTES.min(text.len())) {
+        return Err(NO_ROOM);
+    }
+    judge_run(words, keys, calls, places)?;
+    Ok(lay_run(words, keys, calls, text))
 }

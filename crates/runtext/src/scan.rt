@@ -17,14 +17,14 @@ use arch::call::Call;
 use arch::record::BlockKey;
 use arch::record::Word;
 
-pub const NO_LINES: Counts = Counts {
+pub(crate) const NO_LINES: Counts = Counts {
     words: 0,
     keys: 0,
     calls: 0,
 };
 
 // These lines and one more.
-pub fn one_more(found: Counts, line: Line) -> Counts
+pub(crate) fn one_more(found: Counts, line: Line) -> Counts
     requires { ⌜ found .words + found .keys + found .calls ≤ byte-limit ⌝ }
     ensures { λ r. ⌜ r ≡ one-more found line ⌝ }
 {
@@ -57,7 +57,7 @@ fn put(line: Line, found: Counts, words: &mut [Word], keys: &mut [BlockKey], cal
 }
 
 // Whether some run with these places has this text.
-pub fn judge(text: &[u8], places: Counts) -> Result<(), Refusal>
+pub(crate) fn judge(text: &[u8], places: Counts) -> Result<(), Refusal>
     requires { ⌜ length (now text) ≤ byte-limit ⌝ }
     ensures { λ r. ⌜ Cases r (λ _. (q : Run) × Spells places (now (text .entry)) q) (λ e. Bad-line places (now (text .entry)) e × ((q : Run) → Spells places (now (text .entry)) q → ⊥)) ⌝ }
 {
@@ -83,16 +83,17 @@ pub fn judge(text: &[u8], places: Counts) -> Result<(), Refusal>
 }
 
 // Puts the run that has this text into the places that are lent.
-pub fn fill(text: &[u8], words: &mut [Word], keys: &mut [BlockKey], calls: &mut [Call]) -> Counts
+pub(crate) fn fill(
+    text: &[u8],
+    words: &mut [Word],
+    keys: &mut [BlockKey],
+    calls: &mut [Call],
+) -> Counts
     requires short { ⌜ length (now text) ≤ byte-limit ⌝ }
     requires accepted { ⌜ ((q : Run) × Spells (lent (now words) (now keys) (now calls)) (now text) q) ⌝ }
     ensures { λ r. ⌜ Filled (now (text .entry)) (now (words .entry)) (now (keys .entry)) (now (calls .entry)) (now (words .exit)) (now (keys .exit)) (now (calls .exit)) r ⌝ }
 {
-    let places = Counts {
-        words: words.len(),
-        keys: keys.len(),
-        calls: calls.len(),
-    };
+    let places = Counts::of(words, keys, calls);
     let mut found = NO_LINES;
     let Some(mut rest) = after_header(text) else {
         return found;

@@ -52,7 +52,7 @@ fn fields_size(line: Line) -> usize
 }
 
 // A letter, a tab, the other fields and the line's end.
-pub fn line_size(line: Line) -> usize
+pub(crate) fn line_size(line: Line) -> usize
     ensures size { λ r. ⌜ r ≡ length (spell-line line) ⌝ }
     ensures most { λ r. ⌜ r ≤ 53 ⌝ }
 {

@@ -23,7 +23,7 @@ const WORDS: usize = 1024;
 
 const KEYS: usize = 256;
 
-pub fn full(places: Counts, found: Counts, kind: Kind) -> bool
+pub(crate) fn full(places: Counts, found: Counts, kind: Kind) -> bool
     ensures { λ r. ⌜ Decides r (Full places found kind) ⌝ }
 {
     match kind {
@@ -45,7 +45,7 @@ fn late(found: Counts, kind: Kind) -> bool
 }
 
 // What follows the first line of a run text.
-pub fn after_header(text: &[u8]) -> Option<&[u8]>
+pub(crate) fn after_header(text: &[u8]) -> Option<&[u8]>
     ensures { λ r. ⌜ Reads (mapped now r) (λ _. Unit {0}) (λ x. header ++ x) (now (text .entry)) ⌝ }
 {
     let (line, after) = cut(text, LINE_END);
@@ -53,7 +53,7 @@ pub fn after_header(text: &[u8]) -> Option<&[u8]>
 }
 
 // Why the line that `rest` begins with is refused.
-pub fn blame(rest: &[u8], places: Counts, found: Counts) -> Condition
+pub(crate) fn blame(rest: &[u8], places: Counts, found: Counts) -> Condition
     ensures { λ r. ⌜ Blames places found (first-field (now (rest .entry))) r ⌝ }
 {
     let (line, _) = cut(rest, LINE_END);
@@ -72,7 +72,7 @@ pub fn blame(rest: &[u8], places: Counts, found: Counts) -> Condition
 }
 
 // The line that `rest` begins with, where it goes on with a run, and what follows it.
-pub fn step(rest: &[u8], places: Counts, found: Counts) -> Option<(Line, &[u8])>
+pub(crate) fn step(rest: &[u8], places: Counts, found: Counts) -> Option<(Line, &[u8])>
     ensures { λ r. ⌜ Steps places found (now (rest .entry)) (mapped seen r) ⌝ }
 {
     let (line, after) = cut(rest, LINE_END);

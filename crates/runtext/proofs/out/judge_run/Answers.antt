@@ -8,7 +8,7 @@ use Rattle.runtext.proofs.Sofar.{add, empty, spell-long}
 use Rattle.runtext.proofs.out.judge_run.Needs as need
 
 pub loop-line-holds : need.loop-line-holds
-loop-line-holds c = (empty, set-out _)
+loop-line-holds c = (empty, set-out _ _)
 
 pub add-result : need.add-result
 add-result c = record { fits = omega (arith, c .loop-line .inv .1 .within, spell-long (run-of (c .args .words .now) (c .args .keys .now) (c .args .calls .now))) }
@@ -34,7 +34,7 @@ loop-line-again c =
     let h = here (lines r) (c .loop-line .index) (c .in-Some .line) (c .in-Some .ensures tt) in
     let ok = c .in-rest-fault .ensures tt in
     let q = add (c .loop-line .inv .0) (c .in-Some .line) in
-    (q, subst (λ n. Going r (c .loop-line .index + 1) n q) (sym (c .one-more-found .ensures)) (go-further (c .loop-line .inv .1) h (c .pre) (ok .0) (ok .1)))
+    (q, subst (λ n. Going (c .args .places) r (c .loop-line .index + 1) n q) (sym (c .one-more-found .ensures)) (go-further (c .loop-line .inv .1) h (c .pre) (ok .0) (ok .1)))
 
 pub returns : need.returns
 returns c = arrived (c .loop-line .inv .1) (past (lines (run-of (c .args .words .now) (c .args .keys .now) (c .args .calls .now))) (c .loop-line .index) (c .in-rest .ensures tt))

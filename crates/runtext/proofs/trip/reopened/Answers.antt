@@ -21,6 +21,7 @@ returns-in-Break-found c =
       filled = tt;
       refused = bad;
       single = λ d h. one-refused-in _ places (c .args .text .now) d e h bad;
+      complete = λ q h _. told .complete q h;
       unaltered = (told .unaltered .0, told .unaltered .1, told .unaltered .2, refl);
     })
 
@@ -34,4 +35,4 @@ returns c =
     let cs = c .read .last .calls in
     let is : run-in ws ks cs n ≡ _ = λ i. record { words = take (sym (sub-zero (n .words)) i) ws; keys = take (sym (sub-zero (n .keys)) i) ks; calls = take (sym (sub-zero (n .calls)) i) cs } in
     let b = back places (c .args .text .now) (c .args .copy .now) (c .write .last .text) _ (c .write .result) (subst (Spells places (c .args .text .now)) is (f .spells)) (omega arith) (c .write .ensures .written) (c .write .ensures .complete) in
-    rw (b .1) (record { same = b .2; filled = (n, f); refused = tt; single = tt; unaltered = tt })
+    rw (b .1) (record { same = b .2; filled = (n, f); refused = tt; single = tt; complete = tt; unaltered = tt })
