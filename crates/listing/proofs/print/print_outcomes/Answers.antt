@@ -4,7 +4,10 @@ use Prim.Native.Nat.{ℕ, _+_, _<_}
 use native.Mathlib.Nat.{add-assoc}
 use native.Mathlib.Omega.{arith}
 use lib.ListN.{length, getD, drop}
+use borrow.Author.Needs.{needs}
 use Rattle.machine.specs.declared.request.Outcome.{Outcome}
+use Rattle.machine.specs.declared.request.Outcome.the-variants.{Loaded}
+use Rattle.std.specs.declared.result.Result.the-variants.{Ok}
 use Rattle.std.specs.Of.String.{string-bytes}
 use Rattle.std.proofs.shelf.Lists.{at-drop-more, at-drop-all}
 use Rattle.listing.specs.Printing.{outcome-line, listing-of}
@@ -22,7 +25,9 @@ one-more was new whole n i os d h e inv =
 
 pub loop-i-again : need.loop-i-again
 loop-i-again c =
-    one-more (string-bytes (c .loop-i .out)) _ _ (c .args .line) (c .loop-i .i) (c .args .outcomes .now) _ (omega arith) (c .in-Continue-print-outcome .ensures tt) (c .loop-i .inv)
+    let next : Outcome = getD (c .args .outcomes .now) (c .loop-i .i) (Loaded (Ok tt)) in
+    let wrote : string-bytes (c .print-outcome .last .out) ≡ string-bytes (c .loop-i .out) ++ outcome-line (c .args .line + c .loop-i .i) next = search needs in
+    one-more _ _ _ (c .args .line) (c .loop-i .i) (c .args .outcomes .now) (Loaded (Ok tt)) (omega arith) wrote (c .loop-i .inv)
 
 pub returns : need.returns
 returns c =
