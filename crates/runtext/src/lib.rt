@@ -39,6 +39,7 @@ pub struct Counts {
 }
 
 impl Counts {
+    // As many as these slices have.
     pub(crate) fn of(words: &[Word], keys: &[BlockKey], calls: &[Call]) -> Counts
         ensures { λ r. ⌜ r ≡ lent (now (words .entry)) (now (keys .entry)) (now (calls .entry)) ⌝ }
     {
@@ -100,5 +101,5 @@ pub fn write(
     ensures again { λ r. ⌜ made r (λ n. Reads-back (run-of (now (words .entry)) (now (keys .entry)) (now (calls .entry))) (take n (now (text .exit)))) ⌝ }
 {
     let places = Counts::of(words, keys, calls);
-    write_for(places, words, keys, calls, text)
+    write_for(words, keys, calls, places, text)
 }

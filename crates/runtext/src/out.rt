@@ -122,10 +122,10 @@ fn lay_run(words: &[Word], keys: &[BlockKey], calls: &[Call], text: &mut [u8]) -
 // Writes the text of a run into the first bytes of a buffer, where that has room for it and a reader
 // with these places accepts it, and says how many those are. Otherwise nothing is altered.
 pub(crate) fn write_for(
-    places: Counts,
     words: &[Word],
     keys: &[BlockKey],
     calls: &[Call],
+    places: Counts,
     text: &mut [u8],
 ) -> Result<usize, Refusal>
     ensures written { λ r. ⌜ made r (λ n. Written (run-of (now (words .entry)) (now (keys .entry)) (now (calls .entry))) (now (text .entry)) (now (text .exit)) n) ⌝ }

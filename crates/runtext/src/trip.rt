@@ -63,6 +63,6 @@ pub fn restored(
     ensures unaltered { λ r. ⌜ refused r (λ _. (now (text .exit) ≡ now (text .entry)) × (now («words_again» .exit) ≡ now («words_again» .entry)) × (now («keys_again» .exit) ≡ now («keys_again» .entry)) × (now («calls_again» .exit) ≡ now («calls_again» .entry))) ⌝ }
 {
     let places = Counts::of(words_again, keys_again, calls_again);
-    let n = write_for(places, words, keys, calls, text)?;
+    let n = write_for(words, keys, calls, places, text)?;
     read(&text[0..n], words_again, keys_again, calls_again)
 }
