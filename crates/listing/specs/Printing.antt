@@ -14,16 +14,16 @@ use Rattle.runtext.specs.Numerals.{numeral}
 -- of a translation that asked for this many doublewords
 abbrev pub translation-line : ℕ → Result ℕ Condition → ℕ → List ℕ
 translation-line n (Ok real) count = numbered n (codes "R" ∷ numeral real ∷ decimal count ∷ [])
-translation-line n (Err condition) count = refusal-line n condition count
+translation-line n (Err met) count = refusal-line n met count
 
 -- of the call on line n; a load or a new prefix that is done goes without saying, and no line of a text makes a fetch
 -- or a store
 abbrev pub outcome-line : ℕ → Outcome → List ℕ
 outcome-line n (outcome.Loaded (Ok done)) = []
-outcome-line n (outcome.Loaded (Err condition)) = refusal-line n condition 0
+outcome-line n (outcome.Loaded (Err met)) = refusal-line n met 0
 outcome-line n (outcome.Translated counted) = translation-line n (counted .result) (counted .count)
 outcome-line n (outcome.Put (Ok done)) = numbered n (codes "W" ∷ [])
-outcome-line n (outcome.Put (Err condition)) = refusal-line n condition 0
+outcome-line n (outcome.Put (Err met)) = refusal-line n met 0
 outcome-line n outcome.Purged = numbered n (codes "Z" ∷ [])
 outcome-line n (outcome.Fetched counted) = []
 outcome-line n (outcome.Stored counted) = []

@@ -94,7 +94,7 @@ fn record<A: Source<AccessRegister>, P: Source<Paging>>(
     }
 }
 
-// Want of memory is the only way for a listing to fail.
+// What a line could not be written for is want of memory.
 fn stored(written: fmt::Result) -> Result<(), AllocError>
     ensures { λ r. ⌜ isOk r ≡ isOk written ⌝ }
 {

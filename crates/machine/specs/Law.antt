@@ -170,7 +170,7 @@ pub record Alike (r : Registers) (m n : Seen-by) (access : Access) (register add
   pub present : (real : ℕ) → real-seen r m access register address places .result ≡ Ok real → isSome (m .view .word (real / 8 * 8)) ≡ isSome (n .view .word (real / 8 * 8))
   pub key : (real : ℕ) → real-seen r m access register address places .result ≡ Ok real → m .view .key (block-of real) ≡ n .view .key (block-of real)
 
--- they give the same address or number, and the same list, which has at most twelve addresses
+-- they give the same address or condition, and the same list, which has at most twelve addresses
 abbrev pub Answers-alike : Registers → Seen-by → Seen-by → Access → ℕ → ℕ → ℕ → Type 0
 Answers-alike r m n access register address places =
     (translated r n access register address places ≡ translated r m access register address places)
