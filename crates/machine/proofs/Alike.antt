@@ -1,7 +1,7 @@
 -- Two machines that are alike in what a translation can see answer alike.
 use Prim.Native.Nat.{ℕ, zero, suc, _*_, _/_}
 use mathlib.Core.Path.{_≡_, refl, sym, ap, ap₂, subst, _∙_}
-use mathlib.Core.Bool.{Bool, true, false, cond, not}
+use mathlib.Core.Bool.{Bool, true, false, cond, not, _||_}
 use mathlib.Core.List.{List, [], _∷_, _++_}
 use lib.Dec.{eqb, ltb}
 use lib.ListN.{getD}
@@ -28,6 +28,7 @@ use Rattle.lookup.specs.Lookups.{access-asks, page-asks}
 use Rattle.lookup.specs.Sources.{asked}
 use Rattle.machine.specs.Registers.{Registers}
 use Rattle.machine.specs.Translation.{unless, cut, access-key, held-in, looked-up, space-of-token, space-of-register, space-by-mode, token-asks, register-asks, mode-asks, low-protected, page-key, framed, real-of, space-asks, page-asked, key-protected, reached, reach, translation}
+use Rattle.machine.specs.Calls.{refuses-translation}
 use Rattle.machine.specs.Law.{Seen-by, translated, space-seen, real-seen, Alike, Answers-alike}
 use Rattle.machine.proofs.Few.{translation-short}
 
@@ -127,33 +128,39 @@ module _ (r : Registers) (m n : Seen-by) (access : Access) (register address pla
   late : Seen-by → Option AccessAnswer → Seen ℕ
   late x space = then (unless LowAddress low) (λ _. last x space)
 
-  last-alike : (space : Option AccessAnswer) (u : Unit {0}) → space-seen r m access register address places .result ≡ Ok space → unless LowAddress low .result ≡ Ok u → Agree w v (last m space .list) → last n space ≡ last m space
+  unrefused : ltb 15 register ≡ false → ltb places 12 ≡ false → refuses-translation register places ≡ false
+  unrefused number room = ap₂ (λ x y. x || y) number room
+
+  last-alike : ltb 15 register ≡ false → ltb places 12 ≡ false → (space : Option AccessAnswer) (u : Unit {0}) → space-seen r m access register address places .result ≡ Ok space → unless LowAddress low .result ≡ Ok u → Agree w v (last m space .list) → last n space ≡ last m space
   unfolding w v a low last
-  last-alike space u found passed h =
+  last-alike number room space u found passed h =
       let free = unless-passed LowAddress (low-protected r access (cut (r .size) address)) u passed in
       then-alike (m .view .word) (n .view .word) (real-of (page-asks (m .pages) (m .view .word)) access space (cut (r .size) address)) (real-of (page-asks (n .pages) (n .view .word)) access space (cut (r .size) address)) (λ real. reached r (m .view) access real) (λ real. reached r (n .view) access real)
       (real-alike (m .view .word) (n .view .word) (page-asks (m .pages) (m .view .word)) (page-asks (n .pages) (n .view .word)) access space (cut (r .size) address)
-      (λ k asks t. asked-alike (m .view .word) (n .view .word) page-limit (page-walk k) (m .pages k) (n .pages k) (alike .pages k (ap (page-asked r access (cut (r .size) address)) found ∙ ap (λ b. cond b None (space-asks space (cut (r .size) address))) free ∙ asks)) t))
+      (λ k asks t. asked-alike (m .view .word) (n .view .word) page-limit (page-walk k) (m .pages k) (n .pages k) (alike .pages k (ap (λ b. cond b None (page-asked r access (cut (r .size) address) (space-seen r m access register address places .result))) (unrefused number room) ∙ ap (page-asked r access (cut (r .size) address)) found ∙ ap (λ b. cond b None (space-asks space (cut (r .size) address))) free ∙ asks)) t))
       (λ real e t.
-      let seen = then-ok (space-seen r m access register address places) (λ space. then (unless LowAddress (low-protected r access (cut (r .size) address))) (λ _. real-of (page-asks (m .pages) (m .view .word)) access space (cut (r .size) address))) space found
+      let rest = then (space-seen r m access register address places) (λ space. then (unless LowAddress (low-protected r access (cut (r .size) address))) (λ _. real-of (page-asks (m .pages) (m .view .word)) access space (cut (r .size) address))) in
+      let seen = ap (λ b. then (unless BadNumber b) (λ _. then (unless ShortList (ltb places 12)) (λ _. rest)) .result) number
+      ∙ ap (λ b. then (unless ShortList b) (λ _. rest) .result) room
+      ∙ then-ok (space-seen r m access register address places) (λ space. then (unless LowAddress (low-protected r access (cut (r .size) address))) (λ _. real-of (page-asks (m .pages) (m .view .word)) access space (cut (r .size) address))) space found
       ∙ then-ok (unless LowAddress (low-protected r access (cut (r .size) address))) (λ _. real-of (page-asks (m .pages) (m .view .word)) access space (cut (r .size) address)) u passed ∙ e in
       reached-alike r (m .view) (n .view) access real (alike .present real seen) (alike .key real seen))
       h
 
-  reach-alike : Agree w v (then (space-seen r m access register address places) (late m) .list) → then (space-seen r n access register address places) (late n) ≡ then (space-seen r m access register address places) (late m)
+  reach-alike : ltb 15 register ≡ false → ltb places 12 ≡ false → Agree w v (then (space-seen r m access register address places) (late m) .list) → then (space-seen r n access register address places) (late n) ≡ then (space-seen r m access register address places) (late m)
   unfolding w v a low last late
-  reach-alike h =
+  reach-alike number room h =
       then-alike (m .view .word) (n .view .word) (space-seen r m access register address places) (space-seen r n access register address places) (late m) (late n)
       (space-alike (m .view .word) (n .view .word) r (access-asks (m .arts) (m .view .word)) (access-asks (n .arts) (n .view .word)) (r .mode) register
-      (λ k asks t. asked-alike (m .view .word) (n .view .word) access-limit (access-walk k) (m .arts k) (n .arts k) (alike .arts k asks) t))
-      (λ space found t. then-alike (m .view .word) (n .view .word) (unless LowAddress low) (unless LowAddress low) (λ _. last m space) (λ _. last n space) (λ _. refl) (λ u passed t′. last-alike space u found passed t′) t)
+      (λ k asks t. asked-alike (m .view .word) (n .view .word) access-limit (access-walk k) (m .arts k) (n .arts k) (alike .arts k (ap (λ b. cond b None (mode-asks (r .mode) r register)) (unrefused number room) ∙ asks)) t))
+      (λ space found t. then-alike (m .view .word) (n .view .word) (unless LowAddress low) (unless LowAddress low) (λ _. last m space) (λ _. last n space) (λ _. refl) (λ u passed t′. last-alike number room space u found passed t′) t)
       h
 
   same-answer : translated r n access register address places ≡ translated r m access register address places
   unfolding w v a low last late
   same-answer =
       then-alike (m .view .word) (n .view .word) (unless BadNumber (ltb 15 register)) (unless BadNumber (ltb 15 register)) (λ _. then (unless ShortList (ltb places 12)) (λ _. then (space-seen r m access register address places) (late m))) (λ _. then (unless ShortList (ltb places 12)) (λ _. then (space-seen r n access register address places) (late n))) (λ _. refl)
-      (λ _ _ h. then-alike (m .view .word) (n .view .word) (unless ShortList (ltb places 12)) (unless ShortList (ltb places 12)) (λ _. then (space-seen r m access register address places) (late m)) (λ _. then (space-seen r n access register address places) (late n)) (λ _. refl) (λ _ _ t. reach-alike t) h)
+      (λ u few h. then-alike (m .view .word) (n .view .word) (unless ShortList (ltb places 12)) (unless ShortList (ltb places 12)) (λ _. then (space-seen r m access register address places) (late m)) (λ _. then (space-seen r n access register address places) (late n)) (λ _. refl) (λ w′ enough t. reach-alike (unless-passed BadNumber (ltb 15 register) u few) (unless-passed ShortList (ltb places 12) w′ enough) t) h)
       (alike .listed)
 
   pub answers-alike : Answers-alike r m n access register address places

@@ -4,15 +4,16 @@ use mathlib.Core.Path.{_≡_}
 use mathlib.Core.Logic.{_⊎_}
 use mathlib.Core.Bool.{cond}
 use mathlib.Core.List.{List, [], _∷_}
+use lib.Dec.{ltb}
 use lib.ListN.{length, getD}
 use Rattle.std.specs.Options.{isSome}
 use Rattle.std.specs.shelf.Lists.{All}
 use Rattle.std.specs.declared.option.Option.{Option}
-use Rattle.std.specs.declared.option.Option.the-variants.{Some}
+use Rattle.std.specs.declared.option.Option.the-variants.{Some, None}
 use Rattle.std.specs.declared.result.Result.the-variants.{Ok}
 use Rattle.arch.specs.declared.call.Access.{Access}
 use Rattle.arch.specs.declared.call.SourceName.the-variants.{AccessRegister, Page}
-use Rattle.arch.specs.declared.condition.Condition.the-variants.{LowAddress}
+use Rattle.arch.specs.declared.condition.Condition.the-variants.{BadNumber, ShortList, LowAddress}
 use Rattle.arch.specs.Walks.{Seen, then, Agree}
 use Rattle.storage.specs.Views.{View, block-of}
 use Rattle.lookup.specs.declared.access.AccessKey.{AccessKey}
@@ -25,7 +26,7 @@ use Rattle.lookup.specs.Spelling.{page-fits}
 use Rattle.machine.specs.declared.request.Outcome.{Outcome}
 use Rattle.machine.specs.declared.request.Outcome.the-variants as outcome
 use Rattle.machine.specs.declared.request.Request.{Request}
-use Rattle.machine.specs.Calls.{zero-registers}
+use Rattle.machine.specs.Calls.{zero-registers, refuses-translation}
 use Rattle.machine.specs.Registers.{Registers}
 use Rattle.machine.specs.Runs.{Shown, bare, real-view, outcome-of, registers-after, view-after, translates, art-asked, page-asked-by, purges, Passed}
 use Rattle.machine.specs.Translation.{unless, cut, mode-asks, page-asked, space-by-mode, low-protected, real-of, translation}
@@ -157,15 +158,25 @@ module _ (r : Registers) (m : Seen-by) (access : Access) (register address place
   abbrev pub space-seen : Seen (Option AccessAnswer)
   space-seen = space-by-mode (r .mode) r (access-asks (m .arts) (m .view .word)) register
 
+  -- the keys that it asks for: none where it is refused
+  abbrev pub art-key : Option AccessKey
+  art-key = cond (refuses-translation register places) None (mode-asks (r .mode) r register)
+
+  abbrev pub page-key-seen : Option PageKey
+  page-key-seen = cond (refuses-translation register places) None (page-asked r access (cut (r .size) address) (space-seen .result))
+
   -- the real address, before the doubleword there is looked at
   abbrev pub real-seen : Seen ℕ
-  real-seen = then space-seen (λ space. then (unless LowAddress (low-protected r access (cut (r .size) address))) (λ _. real-of (page-asks (m .pages) (m .view .word)) access space (cut (r .size) address)))
+  real-seen =
+      then (unless BadNumber (ltb 15 register)) (λ _. then (unless ShortList (ltb places 12))
+      (λ _. then space-seen (λ space. then (unless LowAddress (low-protected r access (cut (r .size) address)))
+      (λ _. real-of (page-asks (m .pages) (m .view .word)) access space (cut (r .size) address)))))
 
 -- alike in what the sources show for the keys that the first asks, in the doublewords that it lists, and in presence
 -- and key of the doubleword that it reaches
 pub record Alike (r : Registers) (m n : Seen-by) (access : Access) (register address places : ℕ) : Type 0 where
-  pub arts : (k : AccessKey) → mode-asks (r .mode) r register ≡ Some k → m .arts k ≡ n .arts k
-  pub pages : (k : PageKey) → page-asked r access (cut (r .size) address) (space-seen r m access register address places .result) ≡ Some k → m .pages k ≡ n .pages k
+  pub arts : (k : AccessKey) → art-key r m access register address places ≡ Some k → m .arts k ≡ n .arts k
+  pub pages : (k : PageKey) → page-key-seen r m access register address places ≡ Some k → m .pages k ≡ n .pages k
   pub listed : Agree (m .view .word) (n .view .word) (translated r m access register address places .list)
   pub present : (real : ℕ) → real-seen r m access register address places .result ≡ Ok real → isSome (m .view .word (real / 8 * 8)) ≡ isSome (n .view .word (real / 8 * 8))
   pub key : (real : ℕ) → real-seen r m access register address places .result ≡ Ok real → m .view .key (block-of real) ≡ n .view .key (block-of real)
