@@ -1,7 +1,9 @@
 pub mod Accesses
 pub mod Alike
 pub mod Few
+pub mod Fresh
 pub mod InOrder
 pub mod Results
+pub mod Sound
 pub mod Steps
 pub mod Whole

@@ -1,7 +1,8 @@
 -- A translation that is not refused, over the prefix layer that the call has set.
 use Prim.Native.Nat.{ℕ, _%_, _^_, _<_, _≤_}
 use native.Mathlib.Nat.{zero-add}
-use mathlib.Core.Path.{_≡_, refl, sym, ap, ap₂, subst, _∙_}
+use native.Mathlib.Omega.{arith}
+use mathlib.Core.Path.{_≡_, refl, sym, ap, ap₂, subst, subst₂, _∙_}
 use mathlib.Core.Bool.{Bool, true, false, cond, not, _&&_, _||_}
 use mathlib.Core.List.{List, [], _∷_, _++_, append-nil}
 use lib.Dec.{eqb, ltb}
@@ -15,13 +16,14 @@ use Rattle.arch.specs.declared.condition.Condition.{Condition}
 use Rattle.arch.specs.declared.condition.Condition.the-variants.{BadNumber, Unaligned, ShortList}
 use Rattle.std.specs.declared.result.Result.the-variants.{Ok, Err}
 use Rattle.arch.specs.Order.{Row, row, first-of}
-use Rattle.arch.specs.Walks.{Seen, Stepped, onward, then, written}
+use Rattle.arch.specs.Walks.{Seen, refused, Stepped, onward, then, written}
 use Rattle.storage.specs.Views.{View}
 use Rattle.storage.specs.Prefixes.{lawful-prefix, prefixed}
 use Rattle.lookup.specs.declared.access.AccessKey.{AccessKey}
 use Rattle.lookup.specs.declared.access.AccessAnswer.{AccessAnswer}
 use Rattle.lookup.specs.declared.page.PageKey.{PageKey}
 use Rattle.lookup.specs.declared.page.PageAnswer.{PageAnswer}
+use Rattle.machine.specs.declared.machine.Counted.{Counted}
 use Rattle.machine.specs.Accesses.{refuses-access}
 use Rattle.machine.specs.Calls.{Counts, refuses-translation}
 use Rattle.machine.specs.Registers.{Registers}
@@ -95,3 +97,7 @@ answered-unrefused false false false s e = refl
 -- the same count of another term for the result
 pub counts-as : {A : Type 0} {s : Seen A} {before after : List ℕ} {r q : Result A Condition} {n : ℕ} → r ≡ q → Counts s before after q n → Counts s before after r n
 counts-as e p = record { result = e ∙ p .result; count = p .count; places = p .places; few = p .few }
+
+-- a call that is refused at once
+pub counts-refused : {A : Type 0} {s : Seen A} (c : Condition) (places : List ℕ) {x : Counted A} → x ≡ record { result = Err c; count = 0 } → s ≡ refused c → Counts s places places (x .result) (x .count)
+counts-refused c places {x} is same = subst₂ (λ o y. Counts o places places (y .result) (y .count)) (sym same) (sym is) (record { result = refl; count = refl; places = refl; few = omega arith })

@@ -10,9 +10,11 @@ use Rattle.std.specs.Options.{isSome}
 use Rattle.std.specs.shelf.Lists.{All}
 use Rattle.std.specs.declared.option.Option.{Option}
 use Rattle.std.specs.declared.option.Option.the-variants.{Some, None}
+use Rattle.std.specs.declared.result.Result.{Result}
 use Rattle.std.specs.declared.result.Result.the-variants.{Ok}
 use Rattle.arch.specs.declared.call.Access.{Access}
 use Rattle.arch.specs.declared.call.SourceName.the-variants.{AccessRegister, Page}
+use Rattle.arch.specs.declared.condition.Condition.{Condition}
 use Rattle.arch.specs.declared.condition.Condition.the-variants.{BadNumber, ShortList, LowAddress}
 use Rattle.arch.specs.Walks.{Seen, then, Agree}
 use Rattle.storage.specs.Views.{View, block-of}
@@ -28,7 +30,7 @@ use Rattle.machine.specs.declared.request.Outcome.the-variants as outcome
 use Rattle.machine.specs.declared.request.Request.{Request}
 use Rattle.machine.specs.Calls.{zero-registers, refuses-translation}
 use Rattle.machine.specs.Registers.{Registers}
-use Rattle.machine.specs.Runs.{Shown, bare, real-view, outcome-of, registers-after, view-after, translates, art-asked, page-asked-by, purges, Passed}
+use Rattle.machine.specs.Runs.{Shown, bare, real-view, outcome-of, registers-after, view-after, Translating, translates, art-asked, page-asked-by, purges, Passed}
 use Rattle.machine.specs.Translation.{unless, cut, mode-asks, page-asked, space-by-mode, low-protected, real-of, translation}
 
 -- MOMENTS. A run stands between two calls: the registers, the storage beneath the prefix, and what the machine
@@ -83,12 +85,16 @@ Fresh-once {Key} {Answer} fits fresh since shows = (k : Key) (a : Answer) → fi
 abbrev pub Steady : (ℕ → Option ℕ) → List (ℕ → Option ℕ) → List ℕ → Type 0
 Steady now since list = All (λ w. Agree now w list) since
 
--- what bare sources would fetch for a call has held one value since the latest purge of the source in whose
+-- what bare sources would fetch for a translation has held one value since the latest purge of the source in whose
 -- place they stand
+abbrev pub Unchanged-for : Registers → (ℕ → Option ℕ) → List (ℕ → Option ℕ) → List (ℕ → Option ℕ) → Option Translating → Type 0
+Unchanged-for r now arts-earlier pages-earlier t =
+    ((k : AccessKey) → art-asked r t ≡ Some k → Steady now (now ∷ arts-earlier) (access-fresh now k .list))
+    × ((k : PageKey) → page-asked-by r (access-fresh now) t ≡ Some k → Steady now (now ∷ pages-earlier) (page-fresh now k .list))
+
+-- the same of the translation that a call makes, if any
 abbrev pub Unchanged : State → Request → Type 0
-Unchanged s c =
-    ((k : AccessKey) → art-asked (s .registers) (translates c) ≡ Some k → Steady (seen-now s) (arts-since s) (access-fresh (seen-now s) k .list))
-    × ((k : PageKey) → page-asked-by (s .registers) (access-fresh (seen-now s)) (translates c) ≡ Some k → Steady (seen-now s) (pages-since s) (page-fresh (seen-now s) k .list))
+Unchanged s c = Unchanged-for (s .registers) (seen-now s) (s .arts-earlier) (s .pages-earlier) (translates c)
 
 -- an outcome but for the count of doublewords fetched
 abbrev pub uncounted : Outcome → Outcome
@@ -206,3 +212,20 @@ pub record Stands (s : State) (r : Registers) (v : View) (arts-hold : AccessKey 
   pub arts : Sound access-fits access-fresh (arts-since s) arts-hold
   pub pages : Sound page-fits page-fresh (pages-since s) pages-hold
   pub small : Bounded (s .registers)
+
+-- A single translation, whatever the past of the sources: every answer shown was fresh at one of the moments since the
+-- latest purge, what it gives is what it gives with bare sources where nothing changed, and every pair held afterwards
+-- was fresh at one of these moments too.
+pub record Fresh-answer {X : Type 0} (r : Registers) (now : ℕ → Option ℕ) (shown : Shown) (t : Translating) (gives bare-gives : Result X Condition) (arts-after : AccessKey → AccessAnswer → Type 0) (pages-after : PageKey → PageAnswer → Type 0) (arts-earlier pages-earlier : List (ℕ → Option ℕ)) : Type 0 where
+  pub arts-once : Fresh-once access-fits access-fresh (now ∷ arts-earlier) (shown .arts)
+  pub pages-once : Fresh-once page-fits page-fresh (now ∷ pages-earlier) (shown .pages)
+  pub same : Unchanged-for r now arts-earlier pages-earlier (Some t) → gives ≡ bare-gives
+  pub arts : Sound access-fits access-fresh (now ∷ arts-earlier) arts-after
+  pub pages : Sound page-fits page-fresh (now ∷ pages-earlier) pages-after
+
+-- so of any past in which every pair held was fresh at one of the moments
+abbrev pub Answers-fresh : {X : Type 0} → Registers → (ℕ → Option ℕ) → Shown → Translating → Result X Condition → Result X Condition → (AccessKey → AccessAnswer → Type 0) → (AccessKey → AccessAnswer → Type 0) → (PageKey → PageAnswer → Type 0) → (PageKey → PageAnswer → Type 0) → Type 0
+Answers-fresh r now shown t gives bare-gives arts-before arts-after pages-before pages-after =
+    (arts-earlier pages-earlier : List (ℕ → Option ℕ)) → Bounded r
+    → Sound access-fits access-fresh (now ∷ arts-earlier) arts-before → Sound page-fits page-fresh (now ∷ pages-earlier) pages-before
+    → Fresh-answer r now shown t gives bare-gives arts-after pages-after arts-earlier pages-earlier

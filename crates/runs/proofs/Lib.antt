@@ -1,4 +1,3 @@
 mod Far
 mod Lawful
-mod Sound
 mod Stands

@@ -33,7 +33,7 @@ use Rattle.machine.specs.Registers.{Registers}
 use Rattle.machine.specs.Runs.{Shown, real-view, outcome-of, line-registers, registers-after, view-after, purges}
 use Rattle.machine.specs.Law.{State, Bounded, Stands, Keeps-law, seen-now, arts-since, pages-since, start, next}
 use Rattle.runs.proofs.Lawful.{now-of}
-use Rattle.runs.proofs.Sound.{sound-empty, sound-next, sound-shown}
+use Rattle.machine.proofs.Sound.{sound-empty, sound-next, sound-shown}
 
 -- access registers stay in 32 bits
 zeros : (n i : ℕ) → _≡_ {A = ℕ} (getD (replicate n 0) i 0) 0

@@ -8,12 +8,13 @@ use Rattle.std.specs.declared.result.Result.the-variants.{Ok, Err}
 use Rattle.arch.specs.declared.call.Access.the-variants.{Fetch, Store}
 use Rattle.arch.specs.Order.{value}
 use Rattle.storage.specs.Prefixes.{prefixed}
-use Rattle.lookup.specs.Lookups.{access-asks, page-asks}
+use Rattle.lookup.specs.Lookups.{access-fresh, page-fresh, access-asks, page-asks}
 use Rattle.machine.specs.Accesses.{plainly, value-there, accessing, stored-at}
 use Rattle.machine.specs.Calls.{put-answer, put-under}
 use Rattle.machine.specs.Orders.{accessing-rows, real-found}
 use Rattle.machine.specs.Registers.{registers}
 use Rattle.machine.proofs.Accesses.{refused-ordered, fetched-ordered, stored-ordered}
+use Rattle.machine.proofs.Results.{then-same}
 use Rattle.machine.proofs.Whole.{counts-then, counts-as, answered-unrefused}
 use Rattle.machine.proofs.registers.Machine.fetch.Needs as need
 
@@ -28,8 +29,9 @@ returns-in-Ok g c =
     let counts = counts-then (λ real. plainly (value-there (view .word real))) (λ real. refl) gave in
     let same : prefixed (c .accessed-reached .last .self .prefix) (g .S·Storage .view (c .accessed-reached .last .storage .beneath)) ≡ view = ap₂ (λ x b. prefixed (x .prefix) (g .S·Storage .view b)) (told .registers) (told .storage) in
     let fetched = c .fetch-real .ensures .result ∙ ap (λ v. value-there (v .word (c .in-Ok .real))) same in
+    let gives = counts-as fetched counts in
     record {
-      gives = counts-as fetched counts;
+      gives = gives;
       registers = told .registers;
       storage = c .fetch-real .ensures .under ∙ told .storage;
       arts = told .arts;
@@ -37,6 +39,15 @@ returns-in-Ok g c =
       arts-moved = told .arts-moved;
       pages-moved = told .pages-moved;
       refused = λ e. absurd (clash (sym free ∙ e));
+      law = λ arts-earlier pages-earlier small sound-a sound-p.
+          let fresh = told .law arts-earlier pages-earlier small sound-a sound-p in
+          record {
+            arts-once = fresh .arts-once;
+            pages-once = fresh .pages-once;
+            same = λ unchanged. gives .result ∙ then-same (accessing (registers m) (access-asks (g .A·Source .shows (c .args .arts .now)) (view .word)) (page-asks (g .P·Source .shows (c .args .pages .now)) (view .word)) view (c .args .register) (c .args .address) n Fetch) (accessing (registers m) (access-fresh (view .word)) (page-fresh (view .word)) view (c .args .register) (c .args .address) n Fetch) (λ real. plainly (value-there (view .word real))) (λ real. plainly (value-there (view .word real))) (sym (told .gives .result) ∙ fresh .same unchanged) (λ real e. refl);
+            arts = fresh .arts;
+            pages = fresh .pages;
+          };
       order = λ none-a none-p. fetched ∙ fetched-ordered (registers m) view Fetch (c .args .register) (c .args .address) n (c .in-Ok .real) (sym (c .in-Ok .is) ∙ told .order none-a none-p);
     }
 
@@ -47,8 +58,9 @@ returns-in-Err g c =
     let view = prefixed (m .prefix) (g .S·Storage .view (c .args .storage .now .beneath)) in
     let told = c .accessed-reached .ensures in
     let gave = counts-as (sym (c .in-Err .is)) (told .gives) in
+    let gives = counts-then (λ real. plainly (value-there (view .word real))) (λ real. refl) gave in
     record {
-      gives = counts-then (λ real. plainly (value-there (view .word real))) (λ real. refl) gave;
+      gives = gives;
       registers = told .registers;
       storage = told .storage;
       arts = told .arts;
@@ -56,5 +68,14 @@ returns-in-Err g c =
       arts-moved = told .arts-moved;
       pages-moved = told .pages-moved;
       refused = told .refused;
+      law = λ arts-earlier pages-earlier small sound-a sound-p.
+          let fresh = told .law arts-earlier pages-earlier small sound-a sound-p in
+          record {
+            arts-once = fresh .arts-once;
+            pages-once = fresh .pages-once;
+            same = λ unchanged. gives .result ∙ then-same (accessing (registers m) (access-asks (g .A·Source .shows (c .args .arts .now)) (view .word)) (page-asks (g .P·Source .shows (c .args .pages .now)) (view .word)) view (c .args .register) (c .args .address) n Fetch) (accessing (registers m) (access-fresh (view .word)) (page-fresh (view .word)) view (c .args .register) (c .args .address) n Fetch) (λ real. plainly (value-there (view .word real))) (λ real. plainly (value-there (view .word real))) (sym (told .gives .result) ∙ fresh .same unchanged) (λ real e. refl);
+            arts = fresh .arts;
+            pages = fresh .pages;
+          };
       order = λ none-a none-p. refused-ordered (accessing-rows (registers m) view Fetch (c .args .register) (c .args .address) n) (c .in-Err .condition) (real-found (registers m) view Fetch (c .args .register) (c .args .address) n) (value (view .word) (real-found (registers m) view Fetch (c .args .register) (c .args .address) n)) (sym (c .in-Err .is) ∙ told .order none-a none-p);
     }

@@ -1,11 +1,19 @@
 use mathlib.Core.Path.{_≡_, refl, sym, ap, ap₂, subst, _∙_}
 use borrow.Author.Needs.{needs}
-use borrow.Author.Tests.{le-ltb, clash}
+use borrow.Author.Tests.{le-ltb, lt-ltb, clash}
+use mathlib.Core.Logic.{inl}
+use lib.Dec.{ltb}
+use Rattle.arch.specs.declared.condition.Condition.the-variants.{BadNumber, ShortList}
+use Rattle.lookup.specs.declared.access.AccessKey.{AccessKey}
+use Rattle.lookup.specs.declared.access.AccessAnswer.{AccessAnswer}
+use Rattle.lookup.specs.declared.page.PageKey.{PageKey}
+use Rattle.lookup.specs.declared.page.PageAnswer.{PageAnswer}
+use Rattle.machine.specs.Runs.{Shown}
 use Prim.Native.Nat.{ℕ}
 use mathlib.Core.Bool.{Bool, false, cond, _||_}
 use Rattle.std.specs.declared.option.Option.the-variants.{None}
 use lib.ListN.{length}
-use Rattle.arch.specs.Walks.{Stepped}
+use Rattle.arch.specs.Walks.{Seen, Stepped, then}
 use Rattle.storage.specs.Views.{View}
 use Rattle.storage.specs.Prefixes.{prefixed}
 use Rattle.lookup.specs.Access.{access-fits}
@@ -14,10 +22,11 @@ use Rattle.lookup.specs.Sources.{Kept, Moved}
 use Rattle.lookup.specs.Spelling.{page-fits}
 use Rattle.machine.specs.Registers.{registers}
 use Rattle.machine.specs.Calls.{refuses-translation}
-use Rattle.machine.specs.Translation.{reach, translation, cut as cutting, mode-asks, page-asked, space-by-mode}
+use Rattle.machine.specs.Translation.{unless, reach, translation, cut as cutting, mode-asks, page-asked, space-by-mode}
 use Rattle.machine.proofs.Alike.{answers-alike}
+use Rattle.machine.proofs.Fresh.{plainly-asked, translated-fresh, answers-fresh, unasked-fresh}
 use Rattle.machine.proofs.InOrder.{silent-asks, translation-ordered}
-use Rattle.machine.proofs.Whole.{prefix-set, not-refused, counted}
+use Rattle.machine.proofs.Whole.{prefix-set, not-refused, counted, counts-refused}
 use Rattle.machine.proofs.registers.Machine.translate.Needs as need
 
 pub returns : need.returns
@@ -39,15 +48,18 @@ returns g c =
     let moves-p = g .P·Source .moves (c .args .pages .now) (page-fresh (view .word)) in
     let page-key-at = λ (a : ℕ). page-asked (registers m) (c .args .access) a (space-by-mode (m .mode) (registers m) (access-asks shown-a (view .word)) (c .args .register) .result) in
     let counts = counted (plain ∙ cut) reached in
+    let kept-a = subst (λ v. Kept access-fits (access-fresh (v .word)) (g .A·Source .holds (c .args .arts .now)) (g .A·Source .holds (c .reach-result .last .arts))) same (c .reach-result .ensures .arts) in
+    let kept-p = subst (λ v. Kept page-fits (page-fresh (v .word)) (g .P·Source .holds (c .args .pages .now)) (g .P·Source .holds (c .reach-result .last .pages))) same (c .reach-result .ensures .pages) in
     record {
       gives = counts;
       registers = refl;
       storage = c .set-prefix .ensures .under;
-      arts = subst (λ v. Kept access-fits (access-fresh (v .word)) (g .A·Source .holds (c .args .arts .now)) (g .A·Source .holds (c .reach-result .last .arts))) same (c .reach-result .ensures .arts);
-      pages = subst (λ v. Kept page-fits (page-fresh (v .word)) (g .P·Source .holds (c .args .pages .now)) (g .P·Source .holds (c .reach-result .last .pages))) same (c .reach-result .ensures .pages);
+      arts = kept-a;
+      pages = kept-p;
       arts-moved = subst (λ b. Moved (cond b None (mode-asks (m .mode) (registers m) (c .args .register))) moves-a (c .args .arts .now) (c .reach-result .last .arts)) (sym refuses) moved-a;
       pages-moved = subst (λ b. Moved (cond b None (page-key-at (cutting (m .size) (c .args .address)))) moves-p (c .args .pages .now) (c .reach-result .last .pages)) (sym refuses) (subst (λ a. Moved (page-key-at a) moves-p (c .args .pages .now) (c .reach-result .last .pages)) (c .cut .ensures) moved-p);
       refused = λ e. absurd (clash (sym refuses ∙ e));
+      law = answers-fresh (registers m) (view .word) (record { arts = shown-a; pages = shown-p }) (plainly-asked (c .args .access) (c .args .register) (c .args .address) (length (c .args .list .now))) _ _ (g .A·Source .holds (c .args .arts .now)) _ (g .P·Source .holds (c .args .pages .now)) _ (λ k a e. g .A·Source .shown (c .args .arts .now) k a e) (λ k a e. g .P·Source .shown (c .args .pages .now) k a e) kept-a kept-p (λ arts-earlier pages-earlier small arts-once pages-once unchanged. counts .result ∙ translated-fresh (registers m) view small (record { arts = shown-a; pages = shown-p }) arts-earlier pages-earlier arts-once pages-once (c .args .access) (c .args .register) (c .args .address) (length (c .args .list .now)) unchanged);
       alike = λ n same. answers-alike (registers m) (record { arts = shown-a; pages = shown-p; view = view }) n (c .args .access) (c .args .register) (c .args .address) (length (c .args .list .now)) same;
       order = λ none-a none-p.
           counts .result
@@ -56,7 +68,45 @@ returns g c =
     }
 
 pub returns-then-register-gt15 : need.returns-then-register-gt15
-returns-then-register-gt15 g c = search (needs, answers-alike)
+returns-then-register-gt15 g c =
+    let m = c .args .self .now in
+    let n = length (c .args .list .now) in
+    let view = prefixed (m .prefix) (g .S·Storage .view (c .args .storage .now .beneath)) in
+    let shown : Shown = record { arts = g .A·Source .shows (c .args .arts .now); pages = g .P·Source .shows (c .args .pages .now) } in
+    let by = λ (asks : AccessKey → Seen AccessAnswer) (finds : PageKey → Seen PageAnswer). ap (λ b. then (unless BadNumber b) (λ _. then (unless ShortList (ltb n 12)) (λ _. reach (registers m) asks finds view (c .args .access) (c .args .register) (cutting (m .size) (c .args .address))))) (lt-ltb _ _ (c .if-register-gt15 .taken)) in
+    let counts = counts-refused BadNumber (c .args .list .now) (c .refused .ensures) (by (access-asks (shown .arts) (view .word)) (page-asks (shown .pages) (view .word))) in
+    record {
+      gives = counts;
+      registers = refl;
+      storage = refl;
+      arts = λ k a fit h. inl h;
+      pages = λ k a fit h. inl h;
+      arts-moved = search needs;
+      pages-moved = search needs;
+      refused = λ e. refl;
+      law = unasked-fresh (registers m) (view .word) shown (plainly-asked (c .args .access) (c .args .register) (c .args .address) n) _ _ (g .A·Source .holds (c .args .arts .now)) (g .P·Source .holds (c .args .pages .now)) (λ k a e. g .A·Source .shown (c .args .arts .now) k a e) (λ k a e. g .P·Source .shown (c .args .pages .now) k a e) (ap (λ x. x .result) (c .refused .ensures) ∙ ap (λ s. s .result) (sym (by (access-fresh (view .word)) (page-fresh (view .word)))));
+      alike = λ o same. answers-alike (registers m) (record { arts = shown .arts; pages = shown .pages; view = view }) o (c .args .access) (c .args .register) (c .args .address) n same;
+      order = search needs;
+    }
 
 pub returns-then-list-lt12 : need.returns-then-list-lt12
-returns-then-list-lt12 g c = search (needs, answers-alike)
+returns-then-list-lt12 g c =
+    let m = c .args .self .now in
+    let n = length (c .args .list .now) in
+    let view = prefixed (m .prefix) (g .S·Storage .view (c .args .storage .now .beneath)) in
+    let shown : Shown = record { arts = g .A·Source .shows (c .args .arts .now); pages = g .P·Source .shows (c .args .pages .now) } in
+    let by = λ (asks : AccessKey → Seen AccessAnswer) (finds : PageKey → Seen PageAnswer). ap (λ b. then (unless BadNumber b) (λ _. then (unless ShortList (ltb n 12)) (λ _. reach (registers m) asks finds view (c .args .access) (c .args .register) (cutting (m .size) (c .args .address))))) (le-ltb _ _ (c .if-register-gt15 .left)) ∙ ap (λ b. then (unless ShortList b) (λ _. reach (registers m) asks finds view (c .args .access) (c .args .register) (cutting (m .size) (c .args .address)))) (lt-ltb _ _ (c .if-list-lt12 .taken)) in
+    let counts = counts-refused ShortList (c .args .list .now) (c .refused-then-list-lt12 .ensures) (by (access-asks (shown .arts) (view .word)) (page-asks (shown .pages) (view .word))) in
+    record {
+      gives = counts;
+      registers = refl;
+      storage = refl;
+      arts = λ k a fit h. inl h;
+      pages = λ k a fit h. inl h;
+      arts-moved = search needs;
+      pages-moved = search needs;
+      refused = λ e. refl;
+      law = unasked-fresh (registers m) (view .word) shown (plainly-asked (c .args .access) (c .args .register) (c .args .address) n) _ _ (g .A·Source .holds (c .args .arts .now)) (g .P·Source .holds (c .args .pages .now)) (λ k a e. g .A·Source .shown (c .args .arts .now) k a e) (λ k a e. g .P·Source .shown (c .args .pages .now) k a e) (ap (λ x. x .result) (c .refused-then-list-lt12 .ensures) ∙ ap (λ s. s .result) (sym (by (access-fresh (view .word)) (page-fresh (view .word)))));
+      alike = λ o same. answers-alike (registers m) (record { arts = shown .arts; pages = shown .pages; view = view }) o (c .args .access) (c .args .register) (c .args .address) n same;
+      order = search needs;
+    }
