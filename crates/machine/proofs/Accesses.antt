@@ -2,7 +2,7 @@
 use Prim.Native.Nat.{ℕ, zero, suc, _+_, _*_, _/_, _%_, _^_, _≤_}
 use native.Mathlib.Omega.{arith}
 use mathlib.Core.Path.{_≡_, refl, sym, ap, ap₂, subst, _∙_}
-use mathlib.Core.Bool.{Bool, true, false, cond, not}
+use mathlib.Core.Bool.{Bool, true, false, cond, not, _&&_}
 use mathlib.Core.List.{List, [], _∷_, _++_}
 use lib.Dec.{eqb, ltb}
 use borrow.Author.Tests.{eq-eqb, eqb-true, clash}
@@ -14,15 +14,19 @@ use Rattle.std.specs.declared.result.Result.{Result}
 use Rattle.std.specs.declared.result.Result.the-variants.{Ok, Err}
 use Rattle.arch.specs.declared.call.Access.{Access}
 use Rattle.arch.specs.declared.condition.Condition.{Condition}
-use Rattle.arch.specs.declared.condition.Condition.the-variants.{BadNumber, Unaligned, ShortList, LowAddress, Addressing, Key}
+use Rattle.arch.specs.declared.condition.Condition.the-variants.{BadNumber, Unaligned, ShortList, LowAddress, Addressing, AccessList, Page, Key}
 use Rattle.arch.specs.Order.{Row, row, first-of, verdict, value}
+use Rattle.arch.specs.Walks.{Seen, given, onward, then}
 use Rattle.storage.specs.Views.{View, block-of}
 use Rattle.lookup.specs.declared.access.AccessAnswer.{AccessAnswer}
-use Rattle.machine.specs.Accesses.{value-there}
+use Rattle.lookup.specs.declared.access.AccessKey.{AccessKey}
+use Rattle.lookup.specs.declared.page.PageAnswer.{PageAnswer}
+use Rattle.lookup.specs.declared.page.PageKey.{PageKey}
+use Rattle.machine.specs.Accesses.{accessing, value-there}
 use Rattle.machine.specs.Calls.{put-answer}
 use Rattle.machine.specs.Orders.{lookup-rows, space-rows, space-real, reach-rows, space-found, real-found, reaching-rows, accessing-rows}
 use Rattle.machine.specs.Registers.{Registers}
-use Rattle.machine.specs.Translation.{cut, real-address, mode-asks, low-protected, key-protected}
+use Rattle.machine.specs.Translation.{unless, is-store, cut, real-address, mode-asks, space-by-mode, low-protected, page-key, framed, real-of, key-protected, reached, reach, translation}
 
 -- where no row applies, none of the later ones does
 none-of-rest : (r : Row) (rs : List Row) → first-of (r ∷ rs) ≡ None → (r .applies ≡ false) × (first-of rs ≡ None)
@@ -91,12 +95,12 @@ module _ (r : Registers) (view : View) (access : Access) (register address place
         let whole : real / 8 * 8 ≡ real = omega arith in
         subst (λ a. isSome (view .word a) ≡ true) whole there
 
+pub ok-same : {A : Type 0} {a b : A} → _≡_ {A = Result A Condition} (Ok a) (Ok b) → a ≡ b
+ok-same e = cc
+
 -- a verdict that is an answer
 answer-is : {A : Type 0} (o : Option Condition) (x a : A) → Ok x ≡ verdict o a → (o ≡ None) × (x ≡ a)
-answer-is {A} None x a e = (refl, ok-is e)
-  where
-    ok-is : _≡_ {A = Result A Condition} (Ok x) (Ok a) → x ≡ a
-    ok-is e = cc
+answer-is None x a e = (refl, ok-same e)
 answer-is (Some c) x a e = absurd (clash (sym (ap isOk e)))
 
 refusal-is : {A B : Type 0} (o : Option Condition) (c : Condition) (a : A) (b : B) → Err c ≡ verdict o a → _≡_ {A = Result B Condition} (Err c) (verdict o b)
@@ -132,3 +136,56 @@ module _ (r : Registers) (view : View) (access : Access) (register address place
       ∙ ap (λ b. cond b (cond (isSome (view .word there)) (Ok tt) (Err Addressing)) (Err Unaligned)) (eq-eqb _ _ (even-there r view access register address places (is .0)))
       ∙ ap (λ b. cond b (Ok tt) (Err Addressing)) (present-there r view access register address places (is .0))
       ∙ ap (λ o. verdict o tt) (sym (is .0))
+
+-- a step that is answered, after one that was
+then-answer : {A B : Type 0} (s : Seen A) (k : A → Seen B) (b : B) → then s k .result ≡ Ok b → (a : A) × ((s .result ≡ Ok a) × (k a .result ≡ Ok b))
+then-answer {A} {B} s k b e = by (s .result) refl e
+  where
+    by : (o : Result A Condition) → s .result ≡ o → onward (s .list) o k .result ≡ Ok b → (a : A) × ((s .result ≡ Ok a) × (k a .result ≡ Ok b))
+    by (Ok a) same h = (a, (same, h))
+    by (Err c) same h = absurd (clash (ap isOk h))
+
+past-unless : {B : Type 0} (c : Condition) (t : Bool) (s : Seen B) (b : B) → then (unless c t) (λ _. s) .result ≡ Ok b → (t ≡ false) × (s .result ≡ Ok b)
+past-unless c true s b e = absurd (clash (ap isOk e))
+past-unless c false s b e = (refl, e)
+
+module _ (r : Registers) (asks : AccessKey → Seen AccessAnswer) (finds : PageKey → Seen PageAnswer) (view : View) (access : Access) where
+  real-even : (space : Option AccessAnswer) (a x : ℕ) → a % 8 ≡ 0 → real-of finds access space a .result ≡ Ok x → x % 8 ≡ 0
+  real-even None a x even e = subst (λ y. y % 8 ≡ 0) (ok-same e) even
+  real-even (Some space) a x even e =
+      let page = then-answer (finds (page-key (space .asce) a)) (framed access space a) x e in
+      let past = past-unless Page (is-store access && page .0 .protect) (given (real-address (page .0 .frame) a)) x (past-unless AccessList (is-store access && space .«fetch_only») (then (unless Page (is-store access && page .0 .protect)) (λ _. given (real-address (page .0 .frame) a))) x (page .1 .1) .1) in
+      subst (λ y. y % 8 ≡ 0) (ok-same (past .1)) (framed-even (page .0 .frame) a even)
+
+  -- the doubleword reached is the one at the address, and it is there
+  reached-there : (x y : ℕ) → x % 8 ≡ 0 → reached r view access x .result ≡ Ok y → (y % 8 ≡ 0) × (isSome (view .word y) ≡ true)
+  reached-there x y even e =
+      let there = past-unless Addressing (not (isSome (view .word (x / 8 * 8)))) (then (unless Key (key-protected (r .key) access (view .key (block-of x)))) (λ _. given x)) y e in
+      let same = ok-same (past-unless Key (key-protected (r .key) access (view .key (block-of x))) (given x) y (there .1) .1) in
+      let whole : x / 8 * 8 ≡ x = omega arith in
+      (subst (λ z. z % 8 ≡ 0) same even, subst (λ z. isSome (view .word z) ≡ true) (whole ∙ same) (not-false (isSome (view .word (x / 8 * 8))) (there .0)))
+
+  -- what an access comes to is a multiple of 8 whose doubleword is there, over any sources
+  pub accessed-there : (register address places y : ℕ) → accessing r asks finds view register address places access .result ≡ Ok y → (y % 8 ≡ 0) × (isSome (view .word y) ≡ true)
+  accessed-there register address places y e =
+      let a = cut (r .size) address in
+      let rest = reach r asks finds view access register a in
+      let whole = translation r asks finds view access register address places in
+      let number = past-unless BadNumber (ltb 15 register) (then (unless Unaligned (not (eqb (address % 8) 0))) (λ _. then (unless ShortList (ltb places 12)) (λ _. whole))) y e in
+      let aligned = past-unless Unaligned (not (eqb (address % 8) 0)) (then (unless ShortList (ltb places 12)) (λ _. whole)) y (number .1) in
+      let room = past-unless ShortList (ltb places 12) whole y (aligned .1) in
+      let again = past-unless ShortList (ltb places 12) rest y (past-unless BadNumber (ltb 15 register) (then (unless ShortList (ltb places 12)) (λ _. rest)) y (room .1) .1) in
+      let late = λ (space : Option AccessAnswer). then (real-of finds access space a) (λ real. reached r view access real) in
+      let space = then-answer (space-by-mode (r .mode) r asks register) (λ space. then (unless LowAddress (low-protected r access a)) (λ _. late space)) y (again .1) in
+      let high = past-unless LowAddress (low-protected r access a) (late (space .0)) y (space .1 .1) in
+      let real = then-answer (real-of finds access (space .0) a) (λ real. reached r view access real) y (high .1) in
+      let even = cut-even (r .size) address (eqb-true _ _ (not-false (eqb (address % 8) 0) (aligned .0))) in
+      reached-there (real .0) y (real-even (space .0) a (real .0) even (real .1 .0)) (real .1 .1)
+
+  pub fetched-there : (register address places y : ℕ) → accessing r asks finds view register address places access .result ≡ Ok y → value-there (view .word y) ≡ Ok (value (view .word) y)
+  fetched-there register address places y e = value-is (view .word y) (accessed-there register address places y e .1)
+
+  pub stored-there : (register address places y : ℕ) → accessing r asks finds view register address places access .result ≡ Ok y → put-answer view y ≡ Ok tt
+  stored-there register address places y e =
+      let there = accessed-there register address places y e in
+      ap (λ b. cond b (cond (isSome (view .word y)) (Ok tt) (Err Addressing)) (Err Unaligned)) (eq-eqb _ _ (there .0)) ∙ ap (λ b. cond b (Ok tt) (Err Addressing)) (there .1)

@@ -1,4 +1,5 @@
 // Fetch and store: a translation, and then the doubleword.
+ghost use Prim.Native.Nat.{ℕ};
 ghost use lib.ListN.{length};
 ghost use mathlib.Core.Bool.{cond, true};
 ghost use mathlib.Core.Path.{_≡_};
@@ -15,6 +16,7 @@ ghost use Rattle.machine.specs.Calls.{Counts};
 ghost use Rattle.machine.specs.Registers.{registers};
 ghost use Rattle.machine.specs.Translation.{cut as cutting, mode-asks, page-asked, space-by-mode};
 ghost use Rattle.std.specs.declared.option.Option.the-variants.{None};
+ghost use Rattle.std.specs.declared.result.Result.the-variants.{Ok};
 ghost use Rattle.storage.specs.Prefixes.{prefixed};
 use crate::machine::Counted;
 use crate::registers::Machine;
@@ -84,6 +86,7 @@ impl Machine {
         list: &mut [u64],
     ) -> Counted<u64>
         ensures gives { λ r. ⌜ Counts (fetching (registers (now (self .entry))) (access-asks (A·Source .shows (now (arts .entry))) (prefixed (now (self .entry) .prefix) (S·Storage .view (now (storage .entry) .beneath)) .word)) (page-asks (P·Source .shows (now (pages .entry))) (prefixed (now (self .entry) .prefix) (S·Storage .view (now (storage .entry) .beneath)) .word)) (prefixed (now (self .entry) .prefix) (S·Storage .view (now (storage .entry) .beneath))) register address (length (now (list .entry)))) (now (list .entry)) (now (list .exit)) (r .result) (r .count) ⌝ }
+        ensures value { λ r. ⌜ ((real : ℕ) → accessing (registers (now (self .entry))) (access-asks (A·Source .shows (now (arts .entry))) (prefixed (now (self .entry) .prefix) (S·Storage .view (now (storage .entry) .beneath)) .word)) (page-asks (P·Source .shows (now (pages .entry))) (prefixed (now (self .entry) .prefix) (S·Storage .view (now (storage .entry) .beneath)) .word)) (prefixed (now (self .entry) .prefix) (S·Storage .view (now (storage .entry) .beneath))) register address (length (now (list .entry))) Fetch .result ≡ Ok real → r .result ≡ Ok (value-at (prefixed (now (self .entry) .prefix) (S·Storage .view (now (storage .entry) .beneath)) .word) real)) ⌝ }
         ensures registers { λ _. ⌜ now (self .exit) ≡ now (self .entry) ⌝ }
         ensures storage { λ _. ⌜ now (storage .exit) .beneath ≡ now (storage .entry) .beneath ⌝ }
         ensures arts { λ _. ⌜ Kept access-fits (access-fresh (prefixed (now (self .entry) .prefix) (S·Storage .view (now (storage .entry) .beneath)) .word)) (A·Source .holds (now (arts .entry))) (A·Source .holds (now (arts .exit))) ⌝ }
@@ -121,6 +124,7 @@ impl Machine {
         list: &mut [u64],
     ) -> Counted<()>
         ensures gives { λ r. ⌜ Counts (storing (registers (now (self .entry))) (access-asks (A·Source .shows (now (arts .entry))) (prefixed (now (self .entry) .prefix) (S·Storage .view (now (storage .entry) .beneath)) .word)) (page-asks (P·Source .shows (now (pages .entry))) (prefixed (now (self .entry) .prefix) (S·Storage .view (now (storage .entry) .beneath)) .word)) (prefixed (now (self .entry) .prefix) (S·Storage .view (now (storage .entry) .beneath))) register address (length (now (list .entry)))) (now (list .entry)) (now (list .exit)) (r .result) (r .count) ⌝ }
+        ensures done { λ r. ⌜ ((real : ℕ) → accessing (registers (now (self .entry))) (access-asks (A·Source .shows (now (arts .entry))) (prefixed (now (self .entry) .prefix) (S·Storage .view (now (storage .entry) .beneath)) .word)) (page-asks (P·Source .shows (now (pages .entry))) (prefixed (now (self .entry) .prefix) (S·Storage .view (now (storage .entry) .beneath)) .word)) (prefixed (now (self .entry) .prefix) (S·Storage .view (now (storage .entry) .beneath))) register address (length (now (list .entry))) Store .result ≡ Ok real → r .result ≡ Ok tt) ⌝ }
         ensures registers { λ _. ⌜ now (self .exit) ≡ now (self .entry) ⌝ }
         ensures storage { λ _. ⌜ S·Storage .view (now (storage .exit) .beneath) ≡ stored-at (now (self .entry) .prefix) (S·Storage .view (now (storage .entry) .beneath)) value (accessing (registers (now (self .entry))) (access-asks (A·Source .shows (now (arts .entry))) (prefixed (now (self .entry) .prefix) (S·Storage .view (now (storage .entry) .beneath)) .word)) (page-asks (P·Source .shows (now (pages .entry))) (prefixed (now (self .entry) .prefix) (S·Storage .view (now (storage .entry) .beneath)) .word)) (prefixed (now (self .entry) .prefix) (S·Storage .view (now (storage .entry) .beneath))) register address (length (now (list .entry))) Store .result) ⌝ }
         ensures arts { λ _. ⌜ Kept access-fits (access-fresh (prefixed (now (self .entry) .prefix) (S·Storage .view (now (storage .entry) .beneath)) .word)) (A·Source .holds (now (arts .entry))) (A·Source .holds (now (arts .exit))) ⌝ }

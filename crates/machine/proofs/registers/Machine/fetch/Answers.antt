@@ -4,6 +4,7 @@ use mathlib.Core.Bool.{not}
 use lib.Dec.{eqb, ltb}
 use lib.ListN.{length}
 use borrow.Author.Tests.{clash}
+use Rattle.std.specs.Results.{isOk}
 use Rattle.std.specs.declared.result.Result.the-variants.{Ok, Err}
 use Rattle.arch.specs.declared.call.Access.the-variants.{Fetch, Store}
 use Rattle.arch.specs.Order.{value}
@@ -13,7 +14,7 @@ use Rattle.machine.specs.Accesses.{plainly, value-there, accessing, stored-at}
 use Rattle.machine.specs.Calls.{put-answer, put-under}
 use Rattle.machine.specs.Orders.{accessing-rows, real-found}
 use Rattle.machine.specs.Registers.{registers}
-use Rattle.machine.proofs.Accesses.{refused-ordered, fetched-ordered, stored-ordered}
+use Rattle.machine.proofs.Accesses.{refused-ordered, fetched-ordered, stored-ordered, fetched-there, stored-there, ok-same}
 use Rattle.machine.proofs.Results.{then-same}
 use Rattle.machine.proofs.Whole.{counts-then, counts-as, answered-unrefused}
 use Rattle.machine.proofs.registers.Machine.fetch.Needs as need
@@ -32,6 +33,7 @@ returns-in-Ok g c =
     let gives = counts-as fetched counts in
     record {
       gives = gives;
+      value = λ real e. fetched ∙ fetched-there (registers m) (access-asks (g .A·Source .shows (c .args .arts .now)) (view .word)) (page-asks (g .P·Source .shows (c .args .pages .now)) (view .word)) view Fetch (c .args .register) (c .args .address) n (c .in-Ok .real) (sym (gave .result)) ∙ ap (λ x. Ok (value (view .word) x)) (ok-same (gave .result ∙ e));
       registers = told .registers;
       storage = c .fetch-real .ensures .under ∙ told .storage;
       arts = told .arts;
@@ -61,6 +63,7 @@ returns-in-Err g c =
     let gives = counts-then (λ real. plainly (value-there (view .word real))) (λ real. refl) gave in
     record {
       gives = gives;
+      value = λ real e. absurd (clash (ap isOk (gave .result ∙ e)));
       registers = told .registers;
       storage = told .storage;
       arts = told .arts;

@@ -4,6 +4,7 @@ use mathlib.Core.Bool.{not}
 use lib.Dec.{eqb, ltb}
 use lib.ListN.{length}
 use borrow.Author.Tests.{clash}
+use Rattle.std.specs.Results.{isOk}
 use Rattle.std.specs.declared.result.Result.the-variants.{Ok, Err}
 use Rattle.arch.specs.declared.call.Access.the-variants.{Fetch, Store}
 use Rattle.arch.specs.Order.{value}
@@ -13,7 +14,7 @@ use Rattle.machine.specs.Accesses.{plainly, value-there, accessing, stored-at}
 use Rattle.machine.specs.Calls.{put-answer, put-under}
 use Rattle.machine.specs.Orders.{accessing-rows, real-found}
 use Rattle.machine.specs.Registers.{registers}
-use Rattle.machine.proofs.Accesses.{refused-ordered, fetched-ordered, stored-ordered}
+use Rattle.machine.proofs.Accesses.{refused-ordered, fetched-ordered, stored-ordered, fetched-there, stored-there, ok-same}
 use Rattle.machine.proofs.Results.{then-same}
 use Rattle.machine.proofs.Whole.{counts-then, counts-as, answered-unrefused}
 use Rattle.machine.proofs.registers.Machine.store.Needs as need
@@ -33,6 +34,7 @@ returns-in-Ok g c =
     let gives = counts-as stored counts in
     record {
       gives = gives;
+      done = λ real e. stored ∙ stored-there (registers m) (access-asks (g .A·Source .shows (c .args .arts .now)) (view .word)) (page-asks (g .P·Source .shows (c .args .pages .now)) (view .word)) view Store (c .args .register) (c .args .address) n (c .in-Ok .real) (sym (gave .result));
       registers = c .put .ensures .registers ∙ told .registers;
       storage = c .put .ensures .under ∙ ap₂ (λ x b. put-under (x .prefix) (g .S·Storage .view b) (c .in-Ok .real) (c .args .value)) (told .registers) (told .storage) ∙ ap (stored-at (m .prefix) v (c .args .value)) (gave .result);
       arts = told .arts;
@@ -63,6 +65,7 @@ returns-in-Err g c =
     let gives = counts-then (λ real. plainly (put-answer view real)) (λ real. refl) gave in
     record {
       gives = gives;
+      done = λ real e. absurd (clash (ap isOk (gave .result ∙ e)));
       registers = told .registers;
       storage = ap (g .S·Storage .view) (told .storage) ∙ ap (stored-at (m .prefix) v (c .args .value)) (gave .result);
       arts = told .arts;
