@@ -121,7 +121,7 @@ fn refuses_accesses() -> Result<(), Fail> {
         keys: &keys,
     });
     let mut arts = TableWalk;
-    let mut pages = stack();
+    let mut pages = TableWalk;
     let mut machine = Machine::new(&mut arts, &mut pages);
     let mut list = [0; 12];
     let mut few = [0; 11];

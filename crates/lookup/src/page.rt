@@ -155,11 +155,11 @@ fn page_entry<S: Storage>(
     check(Condition::PageTranslation, flag(entry, 53))?;
     check(
         Condition::TranslationSpecification,
-        flag(entry, 52) || flag(entry, 55),
+        flag(entry, 52) | flag(entry, 55),
     )?;
     Ok(PageAnswer {
         frame: field(entry, 0, 51),
-        protect: flag(segment, 54) || flag(entry, 54),
+        protect: flag(segment, 54) | flag(entry, 54),
     })
 }
 
