@@ -16,7 +16,7 @@ use Rattle.machine.specs.declared.request.Request.the-variants.{Line}
 use Rattle.machine.specs.Law.{Ran}
 use Rattle.runtext.specs.declared.Counts.{Counts}
 use Rattle.runtext.specs.declared.Refusal.{Refusal}
-use Rattle.runtext.specs.Runs.{Run, Spells}
+use Rattle.runtext.specs.Runs.{Run, Spellable, Readable, Spells}
 use Rattle.runtext.specs.Verdicts.{Refused}
 use Rattle.storage.specs.Records.{sparse-view}
 use Rattle.storage.specs.Views.{View}
@@ -25,6 +25,10 @@ use Rattle.listing.specs.Printing.{listing-of}
 -- the places that a listing has for what a text says
 abbrev pub places : Counts
 places = record { words = 1024; keys = 256; calls = 16384 }
+
+-- these are places enough for every run that has a text
+abbrev pub Room-for-all : Type 0
+Room-for-all = (q : Run) → Spellable q → Readable places q
 
 -- the line of a run's first call: the header and a line for each record stand before it
 abbrev pub first-call : Run → ℕ
@@ -52,11 +56,12 @@ module _ {A P : Type 0} (arts-show : A → AccessKey → Option AccessAnswer) (a
     pub spelt : Spells room text run
     pub listed : Lists-run run out a p a′ p′
 
-  -- The listing of a text that is refused, given these places, is the line of its refusal. No call is made, and both
-  -- sources are as they were.
+  -- The listing of a text that is refused, given these places, is the line of its refusal. No run with places enough
+  -- spells it, no call is made, and both sources are as they were.
   pub record Lists-refused (room : Counts) (text out : List ℕ) (a : A) (p : P) (a′ : A) (p′ : P) : Type 0 where
     pub refusal : Refusal
     pub refused : Refused room text refusal
+    pub unspelt : (q : Run) → Spells room text q → ⊥
     pub bytes : out ≡ refusal-line (refusal .line) (refusal .condition) 0
     pub arts : a′ ≡ a
     pub pages : p′ ≡ p

@@ -1,7 +1,7 @@
 // The listing of a run: a line for each call that says something, or the one line of a refused text.
 ghost use Prim.Native.Nat.{_+_, _^_, _<_, _≤_};
 ghost use Rattle.lines.specs.Refusals.{refusal-line};
-ghost use Rattle.listing.specs.Listings.{places, Recorded, Lists-run, Lists};
+ghost use Rattle.listing.specs.Listings.{places, Room-for-all, Recorded, Lists-run, Lists};
 ghost use Rattle.lookaside.specs.Rows.{empty-row};
 ghost use Rattle.runtext.specs.Runs.{lent};
 ghost use Rattle.runtext.specs.Writing.{run-of};
@@ -163,14 +163,16 @@ fn list_within<A: Source<AccessRegister>, P: Source<Paging>>(
     }
 }
 
-// The listing of a run text, over any two sources: of the run that it spells, or of its refusal.
+// The listing of a run text, over any two sources: of the run that it spells, or of its refusal. There are places for
+// every run that has a text.
 pub fn list<A: Source<AccessRegister>, P: Source<Paging>>(
     heap: Global,
     text: &[u8],
     arts: &mut A,
     pages: &mut P,
 ) -> Result<String, AllocError>
-    ensures { λ r. ⌜ made r (λ out. Lists (A·Source .shows) (A·Source .moves) (A·Source .clears) (P·Source .shows) (P·Source .moves) (P·Source .clears) places (now (text .entry)) (string-bytes out) (now (arts .entry)) (now (pages .entry)) (now (arts .exit)) (now (pages .exit))) ⌝ }
+    ensures lists { λ r. ⌜ made r (λ out. Lists (A·Source .shows) (A·Source .moves) (A·Source .clears) (P·Source .shows) (P·Source .moves) (P·Source .clears) places (now (text .entry)) (string-bytes out) (now (arts .entry)) (now (pages .entry)) (now (arts .exit)) (now (pages .exit))) ⌝ }
+    ensures room { λ _. ⌜ Room-for-all ⌝ }
 {
     let mut words = vec![in heap; Word {
         address: 0,

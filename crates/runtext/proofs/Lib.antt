@@ -8,6 +8,7 @@ pub mod Numerals
 pub mod OneRefusal
 pub mod Outgoing
 pub mod Runs
+pub mod Sizes
 pub mod Sofar
 pub mod Trips
 pub mod Written
