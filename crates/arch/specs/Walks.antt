@@ -1,6 +1,6 @@
 -- A table lookup as a tree of reads, apart from any storage, and what comes of it over one.
 use Rattle.std.specs.Prelude.{◌≡◌, ℕ, ◌+◌, ◌≤◌, Bool, true, false, List, [], ◌∷◌, ◌++◌, length, Some, None, Ok, Err, Option, Result, nat_lt, slice_set}
-use Rattle.std.specs.List.{AllByRecursion as All}
+use Rattle.std.specs.List.{AllByRecursion}
 use Rattle.arch.specs.declared.condition.Condition.{Condition}
 use Rattle.arch.specs.declared.condition.Condition.TheVariants.{Addressing}
 
@@ -83,7 +83,7 @@ pub record Walked {A : Type 0} (most : ℕ) (limit : ℕ) (word : ℕ → Option
 
 -- two storages have the same doublewords at each of these addresses
 abbrev pub Agree : (ℕ → Option ℕ) → (ℕ → Option ℕ) → List ℕ → Type 0
-Agree one other list = All (λ a. one a ≡ other a) list
+Agree one other list = AllByRecursion (λ a. one a ≡ other a) list
 
 -- A walk sees no more than it lists: over any storage with the same doublewords there it comes to the same
 -- result and the same list.

@@ -1,4 +1,5 @@
 // Run texts and their listings: good ones, and bad ones in each way that a text can be bad.
+#![tactic(auto)]
 
 // A text and what it lists.
 type Case = (&'static str, &'static str);

@@ -1,4 +1,6 @@
 // What the programs share: a run text from standard input, and the room that any run text needs.
+#![tactic(auto)]
+
 ghost use Rattle.std.specs.Prelude.{◌≤◌, length, IfOk};
 
 use std::io;

@@ -1,4 +1,6 @@
 // What the lines of a listing are made of, for all that print one.
+#![tactic(auto)]
+
 ghost use Rattle.std.specs.Prelude.{◌≡◌, ◌<◌, Some};
 ghost use Rattle.lines.specs.Refusals.{refusal_line};
 ghost use Rattle.runtext.specs.Numerals.{hexit, numeral};

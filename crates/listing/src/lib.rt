@@ -1,4 +1,6 @@
 // The listing of a run: a line for each call that says something, or the one line of a refused text.
+#![tactic(auto)]
+
 ghost use Rattle.std.specs.Prelude.{◌≡◌, ◌+◌, ◌^◌, ◌<◌, ◌≤◌, map, length, replicate, is_ok, IfOk, string_bytes};
 ghost use Rattle.lines.specs.Refusals.{refusal_line};
 ghost use Rattle.listing.specs.Listings.{places, RoomForAll, Recorded, ListsRun, Lists};

@@ -1,4 +1,6 @@
 // Lists a run: standard input has its text, standard output gets its listing.
+#![tactic(auto)]
+
 use input::BYTES;
 
 fn list(rt: &HostRuntime) -> anyhow::Result<()> {

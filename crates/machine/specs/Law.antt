@@ -1,6 +1,6 @@
 -- The law of every run: what is known of each answer, however stores, purges and translations follow one another.
 use Rattle.std.specs.Prelude.{◌≡◌, ℕ, ◌*◌, ◌/◌, ◌^◌, ◌<◌, ◌≤◌, cond, ◌⊎◌, List, [], ◌∷◌, length, is_some, Some, None, Ok, Option, Result, nat_lt, slice_index}
-use Rattle.std.specs.List.{AllByRecursion as All}
+use Rattle.std.specs.List.{AllByRecursion}
 use Rattle.arch.specs.declared.call.Access.{Access}
 use Rattle.arch.specs.declared.call.SourceName.TheVariants.{AccessRegister, Page}
 use Rattle.arch.specs.declared.condition.Condition.{Condition}
@@ -72,7 +72,7 @@ FreshOnce {Key} {Answer} fits fresh since shows = (k : Key) (a : Answer) → fit
 
 -- these doublewords have held one value at all of these moments
 abbrev pub Steady : (ℕ → Option ℕ) → List (ℕ → Option ℕ) → List ℕ → Type 0
-Steady now since list = All (λ w. Agree now w list) since
+Steady now since list = AllByRecursion (λ w. Agree now w list) since
 
 -- what bare sources would fetch for a translation has held one value since the latest purge of the source in whose
 -- place they stand

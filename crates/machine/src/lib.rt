@@ -1,4 +1,6 @@
 // The machine: its register set, and the calls that it answers over a storage and two sources.
+#![tactic(auto)]
+
 mod access;
 mod load;
 mod machine;

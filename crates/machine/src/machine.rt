@@ -30,7 +30,7 @@ pub struct Counted<T> {
 impl<T> Counted<T> {
     // Refused before anything was asked for.
     pub(crate) fn refused(condition: Condition) -> Counted<T>
-        ensures* { λ r. ⌜ r ≡ record { result = Err condition; count = 0 } ⌝ }
+        ensures { result ≡ record { result = Err condition; count = 0 } }
     {
         Counted {
             result: Err(condition),

@@ -1,5 +1,7 @@
 // Writes a run text out again: standard input has it, standard output gets the same bytes, or one
 // line that says why it is refused, as in a listing.
+#![tactic(auto)]
+
 use arch::call::Call;
 use arch::record::{BlockKey, Word};
 use input::{BYTES, CALLS, KEYS, WORDS};

@@ -1,4 +1,6 @@
 // Calls as values: one call by itself, and whole runs of them from a new machine on.
+#![tactic(auto)]
+
 mod perform;
 mod running;
 

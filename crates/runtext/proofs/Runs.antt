@@ -5,7 +5,7 @@ use Rattle.arch.specs.declared.call.Call.TheVariants as call
 use Rattle.arch.specs.declared.record.BlockKey.{BlockKey}
 use Rattle.arch.specs.declared.record.Word.{Word}
 use Rattle.std.proofs.ByRecursion.{All-append}
-use Rattle.std.specs.List.{flat_map, AllByRecursion as All}
+use Rattle.std.specs.List.{flat_map, AllByRecursion}
 use Rattle.runtext.specs.declared.Counts.{Counts}
 use Rattle.runtext.specs.declared.line.Kind.{Kind}
 use Rattle.runtext.specs.declared.line.Kind.TheVariants as kind
@@ -126,10 +126,10 @@ lines_same q r e = λ i. record {
 }
 
 -- a line of none of these in the second part of a list stands in the first
-in_front : (P : Line → Type 0) (xs ys as' bs : List Line) (z : Line) → All P ys → (P z → ⊥) → xs ++ ys ≡ as' ++ (z ∷ bs) → (ds : List Line) × (xs ≡ as' ++ (z ∷ ds))
-in_front P [] ys as' bs z h n e = absurd (n (holds as' (subst (All P) e h)))
+in_front : (P : Line → Type 0) (xs ys as' bs : List Line) (z : Line) → AllByRecursion P ys → (P z → ⊥) → xs ++ ys ≡ as' ++ (z ∷ bs) → (ds : List Line) × (xs ≡ as' ++ (z ∷ ds))
+in_front P [] ys as' bs z h n e = absurd (n (holds as' (subst (AllByRecursion P) e h)))
   where
-    holds : (cs : List Line) → All P (cs ++ (z ∷ bs)) → P z
+    holds : (cs : List Line) → AllByRecursion P (cs ++ (z ∷ bs)) → P z
     holds [] h = h.0
     holds (c ∷ cs) h = holds cs h.1
 in_front P (x ∷ xs) ys [] bs z h n e = (xs, λ i. first e i ∷ xs)
@@ -146,7 +146,7 @@ in_front P (x ∷ xs) ys (a ∷ as') bs z h n e =
     rest : x ∷ (xs ++ ys) ≡ a ∷ (as' ++ (z ∷ bs)) → xs ++ ys ≡ as' ++ (z ∷ bs)
     rest e = cc
 
-all_mapped : {Y : Type 0} (P : Line → Type 0) (g : Y → Line) → ((y : Y) → P (g y)) → (ys : List Y) → All P (map g ys)
+all_mapped : {Y : Type 0} (P : Line → Type 0) (g : Y → Line) → ((y : Y) → P (g y)) → (ys : List Y) → AllByRecursion P (map g ys)
 all_mapped P g h [] = tt
 all_mapped P g h (y ∷ ys) = (h y, all_mapped P g h ys)
 
@@ -203,7 +203,7 @@ unfolding spell
 run_goes_on q r x e = go_on (lines r) (lines q) x (ap (drop 6) e)
 
 -- what holds of each line holds of one
-pub held : (ls : List Line) (z : Line) (zs : List Line) → All Sound (ls ++ (z ∷ zs)) → Sound z
+pub held : (ls : List Line) (z : Line) (zs : List Line) → AllByRecursion Sound (ls ++ (z ∷ zs)) → Sound z
 held [] z zs a = a.0
 held (l ∷ ls) z zs a = held ls z zs a.1
 
@@ -214,7 +214,7 @@ next_line p q r x h e =
   where
     by_lines : (ns : List Line) → lines q ≡ lines r ++ ns → x ≡ flat_map spell_line ns → (x ≡ []) ⊎ ((l : Line) × (after : List ℕ) × Sound l × Goes p (counts r) (kind_of l) × (spell_line l ++ after ≡ x))
     by_lines [] a b = inl b
-    by_lines (z ∷ zs) a b = inr (z, flat_map spell_line zs, held (lines r) z zs (subst (All Sound) a h.spellable.sound), goes p q r z zs h a, sym b)
+    by_lines (z ∷ zs) a b = inr (z, flat_map spell_line zs, held (lines r) z zs (subst (AllByRecursion Sound) a h.spellable.sound), goes p q r z zs h a, sym b)
 
 -- a text says one run
 pub text_same : (q r : Run) → spell q ≡ spell r → q ≡ r

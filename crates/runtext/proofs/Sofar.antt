@@ -5,7 +5,7 @@ use Rattle.arch.specs.declared.call.Call.{Call}
 use Rattle.std.proofs.ByRecursion.{All-push}
 use Rattle.std.proofs.lemmas.List.{map_push, nil_from_length, length_push}
 use Rattle.std.proofs.lemmas.Bool.{cases_eq}
-use Rattle.std.specs.List.{flat_map, AllByRecursion as All}
+use Rattle.std.specs.List.{flat_map, AllByRecursion}
 use Rattle.runtext.specs.declared.Counts.{Counts}
 use Rattle.runtext.specs.declared.Refusal.{Refusal}
 use Rattle.runtext.specs.declared.line.Line.{Line}
@@ -112,7 +112,7 @@ module _ {p : Counts} {text : List ℕ} {found : Counts} {rest : List ℕ} {r : 
         split = split;
         readable = record {
           spellable = record {
-            sound = subst (All Sound) (sym (lines_add r l g'.1)) (All-push Sound (lines r) l s.readable.spellable.sound ok);
+            sound = subst (AllByRecursion Sound) (sym (lines_add r l g'.1)) (All-push Sound (lines r) l s.readable.spellable.sound ok);
             words = grown.0;
             keys = grown.1;
             short = omega (arith, length-append (spell (add r l)) after, ap length split);

@@ -3,7 +3,7 @@ use Rattle.std.specs.Prelude.{◌≡◌, ℕ, ◌≤◌, List, [], ◌∷◌, �
 use Rattle.arch.specs.declared.call.Call.{Call}
 use Rattle.arch.specs.declared.record.BlockKey.{BlockKey}
 use Rattle.arch.specs.declared.record.Word.{Word}
-use Rattle.std.specs.List.{flat_map, AllByRecursion as All}
+use Rattle.std.specs.List.{flat_map, AllByRecursion}
 use Rattle.runtext.specs.declared.Counts.{Counts}
 use Rattle.runtext.specs.declared.line.Line.{Line}
 use Rattle.runtext.specs.declared.line.Line.TheVariants as line
@@ -36,7 +36,7 @@ byte_limit = 65536
 
 -- a run that has a text
 pub record Spellable (r : Run) : Type 0 where
-  pub sound : All Sound (lines r)
+  pub sound : AllByRecursion Sound (lines r)
   pub words : length r.words ≤ word_limit
   pub keys : length r.keys ≤ key_limit
   pub short : length (spell r) ≤ byte_limit

@@ -1,4 +1,6 @@
 // The reader and the writer of run texts: what a run is made of, in lines of fields.
+#![tactic(auto)]
+
 ghost use Rattle.std.specs.Prelude.{◌≡◌, ◌≤◌, length, take, IfOk, IfErr, OnErr};
 ghost use Rattle.runtext.specs.Passes.{Filled};
 ghost use Rattle.runtext.specs.Runs.{Run, Spellable, Spells, lent, spell};

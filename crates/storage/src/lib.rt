@@ -1,4 +1,6 @@
 // Storages: what one means, the sparse storage over lent records, and the prefix layer over any other.
+#![tactic(auto)]
+
 pub mod prefix;
 pub mod sparse;
 pub mod storage;

@@ -16,15 +16,15 @@ encode-hexit b d h e = ap encode e ∙ encode_ascii (hexit d) (grind (arith, nat
 pub returns : goal.returns
 returns g t c =
     let took = g.W.Write.write_str_gives in
-    let last = encode-hexit c.digit-of.result (c.args.n % 16) (omega arith) c.digit-of.ensures in
+    let last = encode-hexit c.digit_of.result (c.args.n % 16) (omega arith) c.digit_of.ensures in
     elim c.if-n-ge16.branch [
       | then-n-ge16+in-ok-put-digits w ↦ λ p ok.
-          let front = w.in-ok-put-digits.ensures p refl in
-          let rest = c.write-char.ensures.writes (subst IsPlainFormatter (sym w.f-is) front.plain) ok in
+          let front = w.in_ok-put_digits.ensures p refl in
+          let rest = c.write_char.ensures.writes (subst IsPlainFormatter (sym w.f-is) front.plain) ok in
           has_written_of_eq took _ _ _ _ (ap (λ bs. numeral (c.args.n / 16) ++ bs) last ∙ sym (numeral_last c.args.n (omega arith)))
           (has_written_append took _ _ _ _ _ front (has_written_from_eq took _ _ _ _ w.f-is rest))
       | else-n-ge16 w ↦ λ p ok.
-          let one = c.write-char.ensures.writes (subst IsPlainFormatter (sym w.f-is) p) ok in
+          let one = c.write_char.ensures.writes (subst IsPlainFormatter (sym w.f-is) p) ok in
           let whole : c.args.n % 16 ≡ c.args.n = omega arith in
           has_written_of_eq took _ _ _ _ (last ∙ ap (λ d. hexit d ∷ []) whole ∙ sym (numeral_digit c.args.n (omega arith)))
           (has_written_from_eq took _ _ _ _ w.f-is one)

@@ -12,11 +12,11 @@ use Rattle.listing.proofs.record.Goals as goal
 -- the run fills every place, so the record is all that the vector holds
 pub returns : goal.returns
 returns g c =
-    let v = c.in-ok-outcomes.outcomes in
+    let v = c.in_ok-outcomes.outcomes in
     let q = run_of c.args.words.now c.args.keys.now c.args.calls.now in
-    let full : length c.run.new.outcomes ≡ v.len = c.run.auto.outcomes ∙ c.deref-mut.ensures.len in
-    let whole : length c.run.new.outcomes ≡ length c.args.calls.now = full ∙ c.in-ok-outcomes.ensures.len in
-    let called : c.deref.result.now ≡ map Line c.args.calls.now = c.deref.ensures.value ∙ c.in-ok-requests.ensures in
+    let full : length c.run.new.outcomes ≡ v.len = c.run.auto.outcomes ∙ c.deref_mut.ensures.len in
+    let whole : length c.run.new.outcomes ≡ length c.args.calls.now = full ∙ c.in_ok-outcomes.ensures.len in
+    let called : c.deref.result.now ≡ map Line c.args.calls.now = c.deref.ensures.value ∙ c.in_ok-requests.ensures in
     let many : length c.deref.result.now ≡ length c.args.calls.now = ap length called ∙ length-map c.args.calls.now Line in
     let after = sparse_view c.run.new.storage.beneath.words.now c.run.new.storage.beneath.keys.now in
     let made = λ (before : View). Ran g.A.Source.shows g.A.Source.moves g.A.Source.clears g.P.Source.shows g.P.Source.moves g.P.Source.clears before c.args.arts.now c.args.pages.now c.deref.result.now (take (length c.deref.result.now) c.run.new.outcomes) after c.run.new.arts c.run.new.pages in
@@ -30,6 +30,6 @@ returns g c =
 
 pub unreachable-requires : goal.unreachable-requires
 unreachable-requires g c =
-    let called : c.deref.result.now ≡ map Line c.args.calls.now = c.deref.ensures.value ∙ c.in-ok-requests.ensures in
+    let called : c.deref.result.now ≡ map Line c.args.calls.now = c.deref.ensures.value ∙ c.in_ok-requests.ensures in
     let many : length c.deref.result.now ≡ length c.args.calls.now = ap length called ∙ length-map c.args.calls.now Line in
-    omega (arith, c.in-Err.ensures.law.1, c.deref-mut.ensures.len, c.in-ok-outcomes.ensures.len)
+    omega (arith, c.in-Err.ensures.law.1, c.deref_mut.ensures.len, c.in_ok-outcomes.ensures.len)

@@ -5,14 +5,14 @@ use Rattle.runtext.specs.Verdicts.{BadLine, Refused}
 use Rattle.runtext.proofs.OneRefusal.{one_refusal, refused_short}
 use Rattle.runtext.proofs.read.Goals as goal
 
-pub returns-in-err-judge : goal.returns-in-err-judge
-returns-in-err-judge c =
+pub returns-in_err-judge : goal.returns-in_err-judge
+returns-in_err-judge c =
     let text = c.args.text.now in
-    let e = c.in-err-judge.field-0.0 in
+    let e = c.in_err-judge.field-0.0 in
     let places = lent c.args.words.now c.args.keys.now c.args.calls.now in
-    let told = subst (λ p. BadLine p text e × ((q : Run) → Spells p text q → ⊥)) c.of.ensures c.in-err-judge.ensures in
+    let told = subst (λ p. BadLine p text e × ((q : Run) → Spells p text q → ⊥)) c.of.ensures c.in_err-judge.ensures in
     let bad : Refused places text e = refused_short places text e (omega arith) told.0 in
-    let p = err_from_is_err_and c.from-residual.result c.from-residual.ensures.1 in
+    let p = err_from_is_err_and c.from_residual.result c.from_residual.ensures.1 in
     rw (p.1, p.2) (record {
       accepted = tt;
       refused = bad;
@@ -22,4 +22,4 @@ returns-in-err-judge c =
     })
 
 pub fill-requires : goal.fill-requires
-fill-requires c = record { short = omega arith; accepted = subst (λ p. (q : Run) × Spells p c.args.text.now q) c.of.ensures c.in-ok-judge.ensures }
+fill-requires c = record { short = omega arith; accepted = subst (λ p. (q : Run) × Spells p c.args.text.now q) c.of.ensures c.in_ok-judge.ensures }

@@ -8,14 +8,14 @@ pub returns : goal.returns
 returns c =
     let r = run_of c.args.words.now c.args.keys.now c.args.calls.now in
     let room = length c.args.text.now in
-    let w = c.write-for.ensures in
+    let w = c.write_for.ensures in
     let own : c.of-places.result ≡ counts r = c.of-places.ensures in
-    let told = subst (Told room r c.write-for.result) own (w.readable, w.refused, w.single, w.complete) in
+    let told = subst (Told room r c.write_for.result) own (w.readable, w.refused, w.single, w.complete) in
     record {
       written = w.written;
       refused = told.1;
       single = told.2;
-      complete = own_places r room c.write-for.result told.3;
+      complete = own_places r room c.write_for.result told.3;
       unaltered = w.unaltered;
-      again = says_run r _ _ c.write-for.result w.written;
+      again = says_run r _ _ c.write_for.result w.written;
     }

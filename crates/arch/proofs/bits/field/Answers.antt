@@ -8,4 +8,4 @@ returns-else-width-lt64 c =
     let wide : 64 ≤ c.args.last + 1 - c.args.first = omega arith in
     let low : c.args.word / 2 ^ (63 - c.args.last) < 2 ^ 64 = omega (arith, shr_le c.args.word (63 - c.args.last)) in
     let small : c.args.word / 2 ^ (63 - c.args.last) < 2 ^ (c.args.last + 1 - c.args.first) = lt_of_lt_of_le low (pow_mono wide) in
-    ap (λ k. c.args.word / 2 ^ k) c.saturating-sub.ensures ∙ sym (mod-eq_of_lt small)
+    ap (λ k. c.args.word / 2 ^ k) c.saturating_sub.ensures ∙ sym (mod-eq_of_lt small)

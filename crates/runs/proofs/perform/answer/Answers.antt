@@ -12,7 +12,7 @@ returns g c =
       storage = did.storage;
       arts = did.arts;
       pages = did.pages;
-      arts-held = did.arts-held;
-      pages-held = did.pages-held;
-      law = λ s stands. keeps_law s shown c.args.request (λ k a e. g.A.Source.shown c.args.arts.now k a e) (λ k a e. g.P.Source.shown c.args.pages.now k a e) stands (record { came = did.outcome; registers = did.registers; view = did.storage; arts = did.arts-held; pages = did.pages-held });
+      arts_held = did.arts_held;
+      pages_held = did.pages_held;
+      law = λ s stands. keeps_law s shown c.args.request (λ k a e. g.A.Source.shown c.args.arts.now k a e) (λ k a e. g.P.Source.shown c.args.pages.now k a e) stands (record { came = did.outcome; registers = did.registers; view = did.storage; arts = did.arts_held; pages = did.pages_held });
     }

@@ -18,7 +18,7 @@ pub returns : goal.returns
 returns g c =
     let whole : c.loop-i.i ≡ length c.args.calls.now = omega arith in
     let enough : length c.args.calls.now ≤ length c.args.outcomes.now = omega arith in
-    let end = far_ends g.A.Source.shows g.A.Source.moves g.A.Source.clears g.P.Source.shows g.P.Source.moves g.P.Source.clears g.A.Source.holds g.P.Source.holds (g.S.Storage.view c.args.storage.now.beneath) c.new-machine.new.arts c.new-machine.new.pages c.args.calls.now c.args.outcomes.now c.loop-i.i whole c.new-machine.ensures.arts-cleared c.new-machine.ensures.pages-cleared c.loop-i.invariant in
+    let end = far_ends g.A.Source.shows g.A.Source.moves g.A.Source.clears g.P.Source.shows g.P.Source.moves g.P.Source.clears g.A.Source.holds g.P.Source.holds (g.S.Storage.view c.args.storage.now.beneath) c.new-machine.new.arts c.new-machine.new.pages c.args.calls.now c.args.outcomes.now c.loop-i.i whole c.new-machine.ensures.arts_cleared c.new-machine.ensures.pages_cleared c.loop-i.invariant in
     record { law = end.0; alike = answers_alike; refused = enough; outcomes = end.1 }
 
 pub returns-then-outcomes-calls : goal.returns-then-outcomes-calls

@@ -3,14 +3,14 @@ use Rattle.runtext.specs.Numerals.{numeral}
 use Rattle.runtext.proofs.Laying.{laid_more, parted_long}
 use Rattle.runtext.proofs.lay.lay_two.Goals as goal
 
-pub lay-number-after-requires : goal.lay-number-after-requires
-lay-number-after-requires c = omega (arith, parted_long (numeral c.args.m) (numeral c.args.n) 9)
+pub lay_number-after-requires : goal.lay_number-after-requires
+lay_number-after-requires c = omega (arith, parted_long (numeral c.args.m) (numeral c.args.n) 9)
 
-pub lay-byte-second-requires : goal.lay-byte-second-requires
-lay-byte-second-requires c = omega (arith, parted_long (numeral c.args.m) (numeral c.args.n) 9, c.lay-number-after.ensures.ends)
+pub lay_byte-second-requires : goal.lay_byte-second-requires
+lay_byte-second-requires c = omega (arith, parted_long (numeral c.args.m) (numeral c.args.n) 9, c.lay_number-after.ensures.ends)
 
-pub lay-number-requires : goal.lay-number-requires
-lay-number-requires c = omega (arith, parted_long (numeral c.args.m) (numeral c.args.n) 9, c.lay-number-after.ensures.ends, c.lay-byte-second.ensures.ends)
+pub lay_number-requires : goal.lay_number-requires
+lay_number-requires c = omega (arith, parted_long (numeral c.args.m) (numeral c.args.n) 9, c.lay_number-after.ensures.ends, c.lay_byte-second.ensures.ends)
 
 pub returns : goal.returns
-returns c = laid_more c.lay-number-after.ensures (laid_more c.lay-byte-second.ensures c.lay-number.ensures (omega (arith, parted_long (numeral c.args.m) (numeral c.args.n) 9, c.lay-number-after.ensures.ends))) (omega arith)
+returns c = laid_more c.lay_number-after.ensures (laid_more c.lay_byte-second.ensures c.lay_number.ensures (omega (arith, parted_long (numeral c.args.m) (numeral c.args.n) 9, c.lay_number-after.ensures.ends))) (omega arith)

@@ -29,8 +29,8 @@ record More (field : List ℕ) (i n d : ℕ) : Type 0 where
 
 more : (c : goal.After-from) → More c.args.field.now c.loop-b.b-index c.loop-b.n c.from.result
 more c =
-    let is : c.from.result ≡ c.in-ok-digit.field-0 = c.from.ensures in
-    let told = c.in-ok-digit.ensures in
+    let is : c.from.result ≡ c.in_ok-digit.field-0 = c.from.ensures in
+    let told = c.in_ok-digit.ensures in
     let spelt : hexit c.from.result ≡ get_or c.args.field.now c.loop-b.b-index 0 = ap hexit is ∙ told.1 in
     record {
       small = omega (arith, told.0);
@@ -44,16 +44,16 @@ more c =
           (cases_eq c.loop-b.b-index 0);
     }
 
-pub overflow-mul-n : goal.overflow-mul-n
-overflow-mul-n c = record { fits = omega (arith, under_all _ _ (under_more c.loop-b.n 0 c.loop-b.b-index c.loop-b.invariant.1 (omega arith)) (omega arith)) }
+pub overflow_mul-n : goal.overflow_mul-n
+overflow_mul-n c = record { fits = omega (arith, under_all _ _ (under_more c.loop-b.n 0 c.loop-b.b-index c.loop-b.invariant.1 (omega arith)) (omega arith)) }
 
-pub returns-in-err-digit : goal.returns-in-err-digit
-returns-in-err-digit c = rw c.from-residual.ensures (λ n h e.
+pub returns-in_err-digit : goal.returns-in_err-digit
+returns-in_err-digit c = rw c.from_residual.ensures (λ n h e.
     let d = numeral_hexit n c.loop-b.b-index (omega (arith, ap length e)) in
-    c.in-err-digit.ensures d.0 d.1 (d.2 ∙ ap (λ l. get_or l c.loop-b.b-index 0) e))
+    c.in_err-digit.ensures d.0 d.1 (d.2 ∙ ap (λ l. get_or l c.loop-b.b-index 0) e))
 
-pub overflow-add-n : goal.overflow-add-n
-overflow-add-n c = record { fits = under_all _ (c.loop-b.b-index + 1) (under_more c.loop-b.n c.from.result c.loop-b.b-index c.loop-b.invariant.1 (more c).small) (omega arith) }
+pub overflow_add-n : goal.overflow_add-n
+overflow_add-n c = record { fits = under_all _ (c.loop-b.b-index + 1) (under_more c.loop-b.n c.from.result c.loop-b.b-index c.loop-b.invariant.1 (more c).small) (omega arith) }
 
 pub loop-b-preserved : goal.loop-b-preserved
 loop-b-preserved c =

@@ -12,8 +12,8 @@ returns-then-size-most c =
     let long = spelt-long (run_of c.args.words.now c.args.keys.now c.args.calls.now) c.loop-line.index in
     (λ e. absurd (false≢true e), λ h. absurd (omega (arith, c.loop-line.invariant.1)))
 
-pub overflow-add-index : goal.overflow-add-index
-overflow-add-index c = record { fits = omega (arith, index-few (lines (run_of c.args.words.now c.args.keys.now c.args.calls.now)) c.loop-line.index c.loop-line.invariant.0, c.loop-line.invariant.1) }
+pub overflow_add-index : goal.overflow_add-index
+overflow_add-index c = record { fits = omega (arith, index-few (lines (run_of c.args.words.now c.args.keys.now c.args.calls.now)) c.loop-line.index c.loop-line.invariant.0, c.loop-line.invariant.1) }
 
 pub loop-line-smaller : goal.loop-line-smaller
 loop-line-smaller c = omega (arith, (here (lines (run_of c.args.words.now c.args.keys.now c.args.calls.now)) c.loop-line.index c.in-Some.line c.in-Some.ensures).within)
@@ -23,10 +23,10 @@ loop-line-preserved c =
     let ls = lines (run_of c.args.words.now c.args.keys.now c.args.calls.now) in
     let h = here ls c.loop-line.index c.in-Some.line c.in-Some.ensures in
     let long = ap length (spelt-more h) ∙ length-append (flat_map spell-line (take c.loop-line.index ls)) (spell-line c.in-Some.line) in
-    (omega (arith, h.within), omega (arith, c.loop-line.invariant.1, c.line-size-size.ensures.size))
+    (omega (arith, h.within), omega (arith, c.loop-line.invariant.1, c.line_size-size.ensures.size))
 
 pub returns : goal.returns
 returns c =
     let r = run_of c.args.words.now c.args.keys.now c.args.calls.now in
-    let all = ap length (spelt-all r c.loop-line.index (past (lines r) c.loop-line.index c.in-default.ensures)) in
+    let all = ap length (spelt-all r c.loop-line.index (past (lines r) c.loop-line.index c.in_default.ensures)) in
     (λ e. omega (arith, leb-true c.loop-line.size c.args.most e, c.loop-line.invariant.1), λ h. le-leb c.loop-line.size c.args.most (omega (arith, c.loop-line.invariant.1)))

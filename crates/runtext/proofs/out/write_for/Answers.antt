@@ -6,15 +6,15 @@ use Rattle.runtext.proofs.OneRefusal.{refused-short}
 use Rattle.runtext.proofs.Written.{written, refused-in, one-refused-in}
 use Rattle.runtext.proofs.out.write_for.Goals as goal
 
-pub returns-in-err-judge-run : goal.returns-in-err-judge-run
-returns-in-err-judge-run c =
+pub returns-in_err-judge_run : goal.returns-in_err-judge_run
+returns-in_err-judge_run c =
     let p = c.args.places in
     let text = spell (run_of c.args.words.now c.args.keys.now c.args.calls.now) in
-    let e = c.in-err-judge-run.field-0.0 in
-    let told = c.in-err-judge-run.ensures in
+    let e = c.in_err-judge_run.field-0.0 in
+    let told = c.in_err-judge_run.ensures in
     let short = c.if-not-fits.ensures.0 refl in
     let bad : Refused-in _ p text e = refused-in _ p text e (omega arith) (refused-short p text e (omega arith) told.0) in
-    let q = err_from_is_err_and c.from-residual.result c.from-residual.ensures.1 in
+    let q = err_from_is_err_and c.from_residual.result c.from_residual.ensures.1 in
     rw (q.1, q.2) (record {
       written = tt;
       readable = tt;
@@ -27,6 +27,6 @@ returns-in-err-judge-run c =
 pub returns : goal.returns
 returns c =
     let r = run_of c.args.words.now c.args.keys.now c.args.calls.now in
-    let h = c.in-ok-judge-run.ensures in
-    let w = written r c.args.text.now c.lay-run.new.text c.lay-run.result h.spellable c.lay-run.ensures in
+    let h = c.in_ok-judge_run.ensures in
+    let w = written r c.args.text.now c.lay_run.new.text c.lay_run.result h.spellable c.lay_run.ensures in
     record { written = w; readable = h; refused = tt; single = tt; complete = tt; unaltered = tt }

@@ -5,16 +5,16 @@ use Rattle.runtext.specs.Runs.{header}
 use Rattle.runtext.proofs.Sofar.{Sofar, add, start, few, further, done, no_run, bad_line, no_first, bad_first, empty}
 use Rattle.runtext.proofs.scan.judge.Goals as goal
 
-pub returns-in-default : goal.returns-in-default
-returns-in-default c =
-    let told : (x : List ℕ) → header ++ x ≡ c.args.text.now → ⊥ = λ x e. c.in-default.ensures x tt e in
+pub returns-in_default : goal.returns-in_default
+returns-in_default c =
+    let told : (x : List ℕ) → header ++ x ≡ c.args.text.now → ⊥ = λ x e. c.in_default.ensures x tt e in
     (bad_first told c.args.places _ refl c.blame.ensures, λ q h. no_first told q h.1)
 
 pub loop-line-init : goal.loop-line-init
 loop-line-init c = (empty, start c.args.places c.args.text.now c.in-Some.rest.now c.in-Some.ensures.1)
 
-pub one-more-found-requires : goal.one-more-found-requires
-one-more-found-requires c = omega (arith, few _ _ _ _ c.loop-line.invariant.0 c.loop-line.invariant.1, c.requires)
+pub one_more-found-requires : goal.one_more-found-requires
+one_more-found-requires c = omega (arith, few _ _ _ _ c.loop-line.invariant.0 c.loop-line.invariant.1, c.requires)
 
 pub loop-line-smaller : goal.loop-line-smaller
 loop-line-smaller c = omega (arith, ap length c.in-Some-step.ensures.1, length-append (spell_line c.in-Some-step.line) c.in-Some-step.after.now)
@@ -24,20 +24,20 @@ loop-line-preserved c =
     let told = c.in-Some-step.ensures in
     let l = c.in-Some-step.line in
     let r = c.loop-line.invariant.0 in
-    (add r l, subst (λ n. Sofar c.args.places c.args.text.now n c.in-Some-step.after.now (add r l)) (sym c.one-more-found.ensures) (further c.loop-line.invariant.1 l c.in-Some-step.after.now c.requires told.0.0 told.0.1 told.1))
+    (add r l, subst (λ n. Sofar c.args.places c.args.text.now n c.in-Some-step.after.now (add r l)) (sym c.one_more-found.ensures) (further c.loop-line.invariant.1 l c.in-Some-step.after.now c.requires told.0.0 told.0.1 told.1))
 
-pub returns-then-is-empty : goal.returns-then-is-empty
-returns-then-is-empty c = (c.loop-line.invariant.0, done c.loop-line.invariant.1 (eqb-true _ 0 (sym c.if-is-empty.ensures)))
+pub returns-then-is_empty : goal.returns-then-is_empty
+returns-then-is_empty c = (c.loop-line.invariant.0, done c.loop-line.invariant.1 (eqb-true _ 0 (sym c.if-is_empty.ensures)))
 
-pub overflow-add-line-2 : goal.overflow-add-line-2
-overflow-add-line-2 c = record { fits = omega (arith, few _ _ _ _ c.loop-line.invariant.0 c.loop-line.invariant.1, c.requires) }
+pub overflow_add-line-2 : goal.overflow_add-line-2
+overflow_add-line-2 c = record { fits = omega (arith, few _ _ _ _ c.loop-line.invariant.0 c.loop-line.invariant.1, c.requires) }
 
-pub overflow-add-line-3 : goal.overflow-add-line-3
-overflow-add-line-3 c = record { fits = omega (arith, few _ _ _ _ c.loop-line.invariant.0 c.loop-line.invariant.1, c.requires) }
+pub overflow_add-line-3 : goal.overflow_add-line-3
+overflow_add-line-3 c = record { fits = omega (arith, few _ _ _ _ c.loop-line.invariant.0 c.loop-line.invariant.1, c.requires) }
 
 pub returns : goal.returns
 returns c =
     let s = c.loop-line.invariant.1 in
-    let some : 0 < length c.loop-line.rest.now = omega (arith, eqb-false _ 0 (sym c.if-is-empty.ensures)) in
-    let told = c.in-default-step.ensures in
+    let some : 0 < length c.loop-line.rest.now = omega (arith, eqb-false _ 0 (sym c.if-is_empty.ensures)) in
+    let told = c.in_default-step.ensures in
     (bad_line s some told _ refl c.blame-2.ensures, no_run s some told)

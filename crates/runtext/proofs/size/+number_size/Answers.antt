@@ -12,6 +12,6 @@ returns-else-n-lt16 t c =
     let long = ap length (numeral_last c.args.n (omega arith)) in
     let push = length_push (numeral (c.args.n / 16)) (hexit (c.args.n % 16)) in
     record {
-      size = omega (arith, c.number-size.ensures.size);
-      most = omega (arith, c.number-size.ensures.size, numeral_short c.args.n (omega arith));
+      size = omega (arith, c.number_size.ensures.size);
+      most = omega (arith, c.number_size.ensures.size, numeral_short c.args.n (omega arith));
     }

@@ -7,13 +7,13 @@ use Rattle.runtext.proofs.Trips.{back}
 use Rattle.runtext.proofs.Written.{refused_in, one_refused_in}
 use Rattle.runtext.proofs.trip.reopened.Goals as goal
 
-pub returns-in-err-found : goal.returns-in-err-found
-returns-in-err-found c =
-    let told = c.in-err-found.ensures in
-    let e = c.in-err-found.field-0.0 in
+pub returns-in_err-found : goal.returns-in_err-found
+returns-in_err-found c =
+    let told = c.in_err-found.ensures in
+    let e = c.in_err-found.field-0.0 in
     let places = lent c.args.words.now c.args.keys.now c.args.calls.now in
     let bad : RefusedIn _ places c.args.text.now e = refused_in _ places c.args.text.now e (omega arith) told.refused in
-    let p = err_from_is_err_and c.from-residual.result c.from-residual.ensures.1 in
+    let p = err_from_is_err_and c.from_residual.result c.from_residual.ensures.1 in
     rw (p.1, p.2) (record {
       same = tt;
       filled = tt;
@@ -25,8 +25,8 @@ returns-in-err-found c =
 
 pub returns : goal.returns
 returns c =
-    let f = c.in-ok-found.ensures.accepted in
-    let n = c.in-ok-found.found in
+    let f = c.in_ok-found.ensures.accepted in
+    let n = c.in_ok-found.found in
     let places = lent c.args.words.now c.args.keys.now c.args.calls.now in
     let ws = c.read.new.words in
     let ks = c.read.new.keys in

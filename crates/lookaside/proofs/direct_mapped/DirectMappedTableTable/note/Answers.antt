@@ -7,7 +7,7 @@ use Rattle.lookaside.proofs.direct_mapped.DirectMappedTableTable.note.Goals as g
 pub returns : goal.returns
 returns c =
     let rows = c.args.self.now.rows in
-    let written = ap₂ (λ i r. set rows i r) c.row-of.ensures c.set.ensures in
+    let written = ap₂ (λ i r. set rows i r) c.row_of.ensures c.set.ensures in
     let within : direct_row c.args.key < length rows = omega arith in
     record {
       rows = written;

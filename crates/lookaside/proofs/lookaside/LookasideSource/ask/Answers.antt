@@ -12,13 +12,13 @@ returns g c =
     let source = g.B.Source in
     let s = c.args.self.now in
     let key = c.args.key in
-    let answer = c.in-ok-answer.answer in
+    let answer = c.in_ok-answer.answer in
     let table = c.note.new.self in
     let beneath = c.ask.new.self in
     let fresh = λ (k : g.row.K-Key.Denot). over kind.limit (g.S.Storage.view c.args.storage.now).word (kind.tree k) in
     let words = c.spell-words.ensures.words in
-    let none : g.T.Table.finds s.table (kind.spelt key) ≡ None = sym (c.in-default.ensures ∙ ap (g.T.Table.finds s.table) words) in
-    let below = c.in-ok-answer.ensures in
+    let none : g.T.Table.finds s.table (kind.spelt key) ≡ None = sym (c.in_default.ensures ∙ ap (g.T.Table.finds s.table) words) in
+    let below = c.in_ok-answer.ensures in
     let gave = below.gives.result in
     let notes : (k a : Words) → g.T.Table.keeps table k a → g.T.Table.keeps s.table k a ⊎ ((k ≡ kind.spelt key) × (a ≡ kind.written answer)) =
     subst₂ (λ x y. (k a : Words) → g.T.Table.keeps table k a → g.T.Table.keeps s.table k a ⊎ ((k ≡ x) × (a ≡ y))) words c.write.ensures c.note.ensures.keeps in

@@ -15,7 +15,7 @@ pub returns-then-word-address : goal.returns-then-word-address
 returns-then-word-address c =
     let same = c.loop-word.invariant.0 in
     let here = rw same at c.if-word-address.true in
-    let key = sym (ap is_some c.first-key.ensures) ∙ c.if-is-none.ensures in
+    let key = sym (ap is_some c.first_key.ensures) ∙ c.if-is_none.ensures in
     record {
       result = put_said _ _ _ _ 0 c.loop-word-test.true c.loop-word.invariant.1 here key;
       after = rw same (put_done _ _ _ _ _ c.loop-word-test.true c.loop-word.invariant.1 here key);
