@@ -51,7 +51,7 @@ def respelled(name):
 
 
 def main():
-    paths = [p for p in sorted(glob.glob("crates/*/**/*", recursive=True)) if p.endswith((".rt", ".antt")) and "/out/" not in p]
+    paths = [p for p in sorted(glob.glob("crates/*/**/*", recursive=True)) if p.endswith((".rt", ".antt")) and not re.match(r"crates/[^/]+/out/", p)]
     texts = {p: open(p, encoding="utf-8").read() for p in paths}
     library, own = set(), set()
     for p, t in texts.items():

@@ -1,5 +1,5 @@
 -- Steps in order: the rows of a step, then those of the next.
-use Rattle.std.proofs.Common.{◌≡◌, ℕ, Bool, true, false, cond, not, ◌||◌, ltb, List, [], ◌∷◌, ◌++◌, is_some, Some, None, Ok, Err, Option, Result, unwrap_or, sym, refl, ap, ◌∙◌, subst}
+use Rattle.std.proofs.Common.{◌≡◌, ℕ, Bool, true, false, cond, not, ◌||◌, ltb, List, [], ◌∷◌, ◌++◌, is_some, Some, None, Option, unwrap_or, refl, ap, ◌∙◌}
 use Rattle.arch.specs.declared.condition.Condition.{Condition}
 use Rattle.arch.specs.declared.condition.Condition.TheVariants.{Addressing}
 use Rattle.arch.specs.Order.{Row, row, first_of, verdict, Ordered, value, missing}

@@ -1,8 +1,8 @@
 -- Laws of walks and of their steps.
-use Rattle.std.proofs.Common.{◌≡◌, ℕ, ◌+◌, ◌≤◌, Bool, true, false, ltb, List, [], ◌∷◌, ◌++◌, length, set, is_some, Some, None, Ok, Err, Option, Result, unwrap_or, sym, refl, ap, ◌∙◌, subst, ap₂, append_assoc, add-zero, arith, length-append}
+use Rattle.std.proofs.Common.{◌≡◌, ℕ, ◌+◌, ◌≤◌, Bool, true, false, ltb, List, [], ◌∷◌, ◌++◌, length, set, is_some, Some, None, Ok, Err, Option, Result, unwrap_or, sym, refl, ap, ◌∙◌, subst, ap₂, add-zero, arith, length-append}
 use borrow.Author.Tests.{clash}
 use Rattle.arch.specs.declared.condition.Condition.{Condition}
-use Rattle.arch.specs.Walks.{Walk, answers, raises, reads, ◌>>=◌, check, Seen, reading, over, onward, then, written, Stepped, Walked, given, asking, Agree, Local}
+use Rattle.arch.specs.Walks.{Walk, answers, raises, reads, ◌>>=◌, check, Seen, reading, over, onward, then, written, Stepped, Walked, asking, Agree, Local}
 
 -- functions that agree everywhere read alike
 reading_next : {A B : Type 0} (at : ℕ) (b : Bool) (v : Option ℕ) (f : ℕ → Seen A) (g : A → Seen B) (h : ℕ → Seen B) → ((w : ℕ) → h w ≡ then (f w) g) → reading at b v h ≡ then (reading at b v f) g

@@ -1,6 +1,6 @@
 -- Laws of the numerals of a run text. Assumes nothing.
 use Rattle.std.proofs.Common.{◌≡◌, ℕ, zero, suc, ◌+◌, ◌*◌, ◌/◌, ◌%◌, ◌^◌, ◌<◌, ◌≤◌, List, [], ◌∷◌, ◌++◌, map, length, get_or, drop, sym, refl, ap, ◌∙◌, pow-suc, add-one, arith}
-use native.Mathlib.Nat.{pow_le_pow_right}
+use native.Mathlib.Nat.{pow-le-pow_right}
 use lib.ListN.{length-map}
 use Rattle.std.proofs.lemmas.Int.Digits.{digits_of_step, length-digits_of-le, all_below_base_digits_of, first_digits_of, same_from_digits_of}
 use Rattle.std.proofs.ByRecursion.{All-get_or}
@@ -73,7 +73,7 @@ pub under_more : (n d i : ℕ) → n < 16 ^ i → d < 16 → n * 16 + d < 16 ^ (
 under_more n d i h small = simp (add-one, pow-suc) (omega arith)
 
 pub under_all : (n i : ℕ) → n < 16 ^ i → i ≤ 16 → n < 2 ^ 64
-under_all n i h most = let p : 16 ^ i ≤ 16 ^ 16 = pow_le_pow_right (omega arith) most in omega arith
+under_all n i h most = let p : 16 ^ i ≤ 16 ^ 16 = pow-le-pow_right (omega arith) most in omega arith
 
 pub lone : (bs : List ℕ) → length bs ≡ 1 → bs ≡ get_or bs 0 0 ∷ []
 lone [] h = absurd (omega arith)

@@ -1,6 +1,6 @@
 -- Each storage here keeps the law of a storage: a present doubleword's block has a key, 0 to 1f.
 use Rattle.std.specs.Prelude.{◌≡◌, ℕ, ◌+◌, ◌-◌, ◌/◌, ◌%◌, ◌<◌, ◌≤◌, Bool, true, false, cond, ◌&&◌, List, is_some, Some, None, Option, nat_eq, nat_le, nat_lt, refl}
-use Rattle.std.proofs.Common.{sym, ap, ap₂, subst, ◌∙◌, arith}
+use Rattle.std.proofs.Common.{ap, ap₂, ◌∙◌, arith}
 use borrow.Author.Tests.{ltb-true, ltb-false, leb-true, leb-false, lt-ltb, le-ltb, le-leb, lt-leb, clash}
 use Rattle.arch.specs.declared.record.Word.{Word}
 use Rattle.arch.specs.declared.record.BlockKey.{BlockKey}

@@ -1,9 +1,9 @@
 use Rattle.std.proofs.Common.{refl, arith}
 use Rattle.std.proofs.lemmas.Result.{err_from_is_err_and}
 use Rattle.runtext.specs.Runs.{spell}
-use Rattle.runtext.specs.Writing.{Refused-in, run_of}
-use Rattle.runtext.proofs.OneRefusal.{refused-short}
-use Rattle.runtext.proofs.Written.{written, refused-in, one-refused-in}
+use Rattle.runtext.specs.Writing.{RefusedIn, run_of}
+use Rattle.runtext.proofs.OneRefusal.{refused_short}
+use Rattle.runtext.proofs.Written.{written, refused_in, one_refused_in}
 use Rattle.runtext.proofs.out.write_for.Goals as goal
 
 pub returns-in_err-judge_run : goal.returns-in_err-judge_run
@@ -13,13 +13,13 @@ returns-in_err-judge_run c =
     let e = c.in_err-judge_run.field-0.0 in
     let told = c.in_err-judge_run.ensures in
     let short = c.if-not-fits.ensures.0 refl in
-    let bad : Refused-in _ p text e = refused-in _ p text e (omega arith) (refused-short p text e (omega arith) told.0) in
+    let bad : RefusedIn _ p text e = refused_in _ p text e (omega arith) (refused_short p text e (omega arith) told.0) in
     let q = err_from_is_err_and c.from_residual.result c.from_residual.ensures.1 in
     rw (q.1, q.2) (record {
       written = tt;
       readable = tt;
       refused = bad;
-      single = λ d h. one-refused-in _ p text d e h bad;
+      single = λ d h. one_refused_in _ p text d e h bad;
       complete = λ h _. told.1 h;
       unaltered = refl;
     })

@@ -1,8 +1,7 @@
-use Rattle.std.proofs.Common.{◌≡◌, ◌<◌, length, get_or, set, is_some, sym, ap, ◌∙◌, subst, arith, below_more}
-use Rattle.arch.specs.declared.record.Word.{Word}
+use Rattle.std.proofs.Common.{is_some, sym, ap, ◌∙◌, arith, below_more}
 use Rattle.std.proofs.lemmas.List.{set-get_or}
-use Rattle.storage.specs.Records.{sparse_view, only_with}
-use Rattle.storage.proofs.Puts.{Before, changed, put_done, put_said, put_not, no_record}
+use Rattle.storage.specs.Records.{sparse_view}
+use Rattle.storage.proofs.Puts.{put_done, put_said, put_not, no_record}
 use Rattle.storage.proofs.sparse.SparseStorage.put.Goals as goal
 
 pub loop-word-preserved : goal.loop-word-preserved
