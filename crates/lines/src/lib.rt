@@ -26,7 +26,7 @@ fn digit_of(d: u8) -> char
 
 // The digits of a number, the last one after those of what is left without it.
 fn put_digits<W: Write>(n: u64, f: &mut Formatter<W>) -> fmt::Result
-    ensures { WritesOnOk write_str_gives f.old result (numeral n) f.new }
+    ensures { WritesOnOk W.write_str_gives f.old result (numeral n) f.new }
 {
     if n >= 16 {
         put_digits(n / 16, f)?;

@@ -1,7 +1,7 @@
 // The listing of a run: a line for each call that says something, or the one line of a refused text.
 #![tactic(auto)]
 
-ghost use Rattle.std.specs.Prelude.{◌≡◌, ◌+◌, ◌^◌, ◌<◌, ◌≤◌, map, length, replicate, is_ok, IfOk, string_bytes};
+ghost use Rattle.std.specs.Prelude.{◌≡◌, ◌+◌, ◌^◌, ◌<◌, ◌≤◌, map, length, replicate, IfOk, string_bytes};
 ghost use Rattle.lines.specs.Refusals.{refusal_line};
 ghost use Rattle.listing.specs.Listings.{places, RoomForAll, Recorded, ListsRun, Lists};
 ghost use Rattle.lookaside.specs.Rows.{empty_row};
@@ -21,7 +21,6 @@ use machine::{Outcome, Request};
 use print::print_outcomes;
 use runtext::{Counts, Refusal};
 use std::alloc::{AllocError, Global};
-use std::fmt;
 use storage::prefix::Prefixed;
 use storage::sparse::Sparse;
 
@@ -76,16 +75,6 @@ fn record<A: Source<AccessRegister>, P: Source<Paging>>(
     }
 }
 
-// What a line could not be written for is want of memory.
-fn stored(written: fmt::Result) -> Result<(), AllocError>
-    ensures { is_ok result ≡ is_ok written }
-{
-    match written {
-        Ok(()) => Ok(()),
-        Err(_) => Err(AllocError),
-    }
-}
-
 // The listing of a run.
 fn list_run<A: Source<AccessRegister>, P: Source<Paging>>(
     heap: Global,
@@ -101,7 +90,7 @@ fn list_run<A: Source<AccessRegister>, P: Source<Paging>>(
     let line = words.len() + keys.len() + 2;
     let outcomes = record(heap, words, keys, calls, arts, pages)?;
     let mut out = String::new(heap);
-    stored(print_outcomes(&mut out, line, &outcomes))?;
+    print_outcomes(&mut out, line, &outcomes)?;
     Ok(out)
 }
 

@@ -6,10 +6,15 @@ ghost use Rattle.listing.specs.Printing.{translation_line, outcome_line, listing
 use arch::condition::Condition;
 use lines::{Hex, RefusalLine};
 use machine::{Counted, Outcome};
-use std::fmt;
+use std::alloc::AllocError;
 
 // The line of a refusal.
-fn print_refusal(out: &mut String, line: usize, condition: Condition, count: usize) -> fmt::Result
+fn print_refusal(
+    out: &mut String,
+    line: usize,
+    condition: Condition,
+    count: usize,
+) -> Result<(), AllocError>
     ensures { OnOk result (string_bytes out.new ≡ string_bytes out.old ++ refusal_line line condition count) }
 {
     out.write(RefusalLine {
@@ -20,7 +25,7 @@ fn print_refusal(out: &mut String, line: usize, condition: Condition, count: usi
 }
 
 // The line of a translation.
-fn print_translation(out: &mut String, line: usize, outcome: Counted<u64>) -> fmt::Result
+fn print_translation(out: &mut String, line: usize, outcome: Counted<u64>) -> Result<(), AllocError>
     ensures { OnOk result (string_bytes out.new ≡ string_bytes out.old ++ translation_line line outcome.result outcome.count) }
 {
     let count = outcome.count;
@@ -34,7 +39,7 @@ fn print_translation(out: &mut String, line: usize, outcome: Counted<u64>) -> fm
 }
 
 // What a listing says of one call.
-fn print_outcome(out: &mut String, line: usize, outcome: Outcome) -> fmt::Result
+fn print_outcome(out: &mut String, line: usize, outcome: Outcome) -> Result<(), AllocError>
     ensures { OnOk result (string_bytes out.new ≡ string_bytes out.old ++ outcome_line line outcome) }
 {
     match outcome {
@@ -50,7 +55,11 @@ fn print_outcome(out: &mut String, line: usize, outcome: Outcome) -> fmt::Result
 }
 
 // What a listing says of calls that follow one another, the first of them on `line`.
-pub(crate) fn print_outcomes(out: &mut String, line: usize, outcomes: &[Outcome]) -> fmt::Result
+pub(crate) fn print_outcomes(
+    out: &mut String,
+    line: usize,
+    outcomes: &[Outcome],
+) -> Result<(), AllocError>
     requires { line + length outcomes.now < 2 ^ 64 }
     ensures { OnOk result (string_bytes out.new ≡ string_bytes out.old ++ listing_of line outcomes.now) }
 {
