@@ -1,5 +1,5 @@
 -- What a lookaside holds after it has noted an answer from beneath.
-use Rattle.std.proofs.Common.{◌≡◌, ◌⊎◌, Some, None, Ok, Err, Option, Result, sym, refl, ap, ◌∙◌, subst, ap₂, subst₂, inl, inr}
+use Rattle.std.proofs.Common.{◌≡◌, ◌⊎◌, Some, None, Ok, Option, Result, sym, refl, ap, ◌∙◌, subst, subst₂, inl, inr}
 use Rattle.arch.specs.declared.condition.Condition.{Condition}
 use Rattle.arch.specs.Walks.{Seen}
 use Rattle.lookup.specs.Sources.{asked, Kept}

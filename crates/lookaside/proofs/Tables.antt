@@ -1,5 +1,5 @@
 -- What stands in rows after one is written, and in empty ones.
-use Rattle.std.proofs.Common.{◌≡◌, ℕ, zero, suc, ◌<◌, Bool, true, false, ◌&&◌, eqb, ◌≢◌, ◌⊎◌, List, length, get_or, set, replicate, sym, refl, ap, ◌∙◌, subst, inl, inr, get_or-set_other, get_or-set_same, eqb-true}
+use Rattle.std.proofs.Common.{◌≡◌, ℕ, zero, suc, ◌<◌, Bool, true, false, ◌&&◌, eqb, ◌⊎◌, List, length, get_or, set, replicate, sym, refl, ap, ◌∙◌, inl, inr, get_or-set_other, get_or-set_same, eqb-true}
 use borrow.Author.Tests.{eqb-false, clash}
 use Rattle.lookup.specs.declared.words.Words.{Words}
 use Rattle.lookaside.specs.declared.row.Row.{Row}

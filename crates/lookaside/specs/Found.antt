@@ -1,6 +1,6 @@
 -- A pair of words that a table finds stands in one of its rows.
-use Rattle.std.specs.Prelude.{◌≡◌, ℕ, zero, suc, Bool, true, false, cond, List, [], ◌∷◌, is_some, Some, None, Option, slice_index_or, refl}
-use Rattle.std.proofs.Common.{ap, ◌∙◌}
+use Rattle.std.specs.Prelude.{◌≡◌, ℕ, suc, Bool, true, false, cond, List, [], ◌∷◌, is_some, Some, None, slice_index_or, refl}
+use Rattle.std.proofs.Common.{ap}
 use borrow.Author.Tests.{clash}
 use Rattle.std.specs.Option.{option_map, unwrap_or}
 use Rattle.storage.specs.Records.{first}

@@ -2,8 +2,6 @@
 use Rattle.std.specs.Prelude.{◌≡◌, ◌⊎◌, Some, None, Ok, Err, Option, Result, refl}
 use Rattle.std.proofs.Common.{inl, inr}
 use Rattle.arch.specs.declared.condition.Condition.{Condition}
-use Rattle.arch.specs.Walks.{Seen}
-use Rattle.lookup.specs.Sources.{asked}
 use Rattle.lookup.specs.declared.words.Words.{Words}
 
 -- the answer of its own row, else what the source beneath shows

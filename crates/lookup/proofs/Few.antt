@@ -2,7 +2,7 @@
 use Rattle.std.proofs.Common.{◌≡◌, ℕ, zero, suc, ◌+◌, ◌≤◌, Bool, true, false, cond, not, ◌||◌, eqb, subst, arith}
 use Rattle.arch.specs.Bits.{bits, bit}
 use Rattle.arch.specs.declared.condition.Condition.TheVariants.{AlenTranslation, AleSequence, TranslationSpecification, PageTranslation}
-use Rattle.arch.specs.Walks.{Walk, answers}
+use Rattle.arch.specs.Walks.{answers}
 use Rattle.arch.proofs.Walks.{Few, few_answer, few_last_check, few_then, few_check, few_read}
 use Rattle.lookup.specs.declared.access.AccessKey.{AccessKey}
 use Rattle.lookup.specs.declared.page.PageKey.{PageKey}

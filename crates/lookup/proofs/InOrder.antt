@@ -1,16 +1,16 @@
 -- Both lookups meet their conditions in the order of their tables.
-use Rattle.std.proofs.Common.{◌≡◌, ℕ, zero, suc, ◌/◌, ◌^◌, Bool, true, false, cond, not, ◌&&◌, ◌||◌, eqb, ltb, List, [], ◌∷◌, ◌++◌, take, drop, Option, refl, ap, ◌∙◌}
-use Rattle.arch.specs.Bits.{bits, bit}
-use Rattle.arch.specs.Order.{Row, row, value, missing, Ordered}
-use Rattle.arch.specs.Walks.{Walk, answers, ◌>>=◌, ◌>>◌, read, check, over}
-use Rattle.arch.specs.declared.condition.Condition.TheVariants.{AletSpecification, Addressing, AlenTranslation, AleSequence, AsteValidity, AsteSequence, ExtendedAuthority, AsceType, TranslationSpecification, PageTranslation}
+use Rattle.std.proofs.Common.{ℕ, zero, suc, ◌/◌, ◌^◌, Bool, true, false, cond, not, ◌&&◌, eqb, ltb, [], ◌∷◌, take, drop, Option, refl}
+use Rattle.arch.specs.Bits.{bit}
+use Rattle.arch.specs.Order.{row, value, missing}
+use Rattle.arch.specs.Walks.{answers}
+use Rattle.arch.specs.declared.condition.Condition.TheVariants.{Addressing, ExtendedAuthority, AsceType}
 use Rattle.arch.proofs.Ordered.{InOrder, answered, check_first, last_check, read_first, part_first}
 use Rattle.lookup.specs.declared.access.AccessKey.{AccessKey}
 use Rattle.lookup.specs.declared.page.PageKey.{PageKey}
 use Rattle.lookup.specs.declared.page.Table.{Table}
 use Rattle.lookup.specs.Access.{access_limit, locate, entry_first, entry, aste_first, aste_sequence, aste, secondary, authorized, access_walk, authority_length, authority_bit}
-use Rattle.lookup.specs.Pages.{page_limit, left_of_index, table_below, table_of, valid_entry, table_entry, page_entry, descend, first_level, through_tables, page_walk}
-use Rattle.lookup.specs.Orders.{locate_rows, entry_rows, aste_rows, authority_rows, entry_address, entry_one, entry_two, aste_one, aste_three, authority_address, needs_authority, access_rows, access_found, entry_in, table_rows, page_address, page_rows, page_found, descent_rows, descent_found, paging_rows, paging_found}
+use Rattle.lookup.specs.Pages.{page_limit, left_of_index, table_below, table_of, table_entry, page_entry, descend, first_level, through_tables, page_walk}
+use Rattle.lookup.specs.Orders.{locate_rows, entry_rows, aste_rows, authority_rows, entry_address, entry_one, entry_two, aste_one, authority_address, needs_authority, access_rows, access_found, entry_in, table_rows, page_rows, page_found, descent_rows, descent_found, paging_rows, paging_found}
 
 module _ (word : ℕ → Option ℕ) (k : AccessKey) where
   locate_ordered : InOrder access_limit word (locate k) (locate_rows word k) (entry_address word k)

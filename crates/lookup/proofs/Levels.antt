@@ -1,5 +1,5 @@
 -- One level of the translation tables, over the level.
-use Rattle.std.proofs.Common.{◌≡◌, ℕ, zero, suc, ◌+◌, ◌-◌, ◌<◌, Bool, List, Ok, Err, Option, Result, sym, subst, not-suc-le-zero, arith}
+use Rattle.std.proofs.Common.{◌≡◌, ℕ, zero, suc, ◌+◌, ◌-◌, ◌<◌, Bool, List, Ok, Err, Option, Result, subst, not-suc-le-zero, arith}
 use Rattle.arch.specs.declared.condition.Condition.{Condition}
 use Rattle.arch.specs.Walks.{Walked}
 use Rattle.arch.proofs.Walks.{walk_on, walk_out}

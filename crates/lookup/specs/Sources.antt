@@ -1,5 +1,5 @@
 -- What a source gives when it is asked.
-use Rattle.std.specs.Prelude.{◌≡◌, ℕ, Bool, ◌⊎◌, is_some, Some, None, Ok, Option, ◌≢◌}
+use Rattle.std.specs.Prelude.{◌≡◌, ◌⊎◌, is_some, Some, None, Ok, Option, ◌≢◌}
 use Rattle.std.proofs.Common.{ap}
 use borrow.Author.Tests.{clash}
 use Rattle.arch.specs.Walks.{Seen, given}

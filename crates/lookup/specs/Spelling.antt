@@ -1,5 +1,5 @@
 -- How the two kinds of lookup spell keys and answers in two words.
-use Rattle.std.specs.Prelude.{ℕ, ◌+◌, ◌*◌, ◌^◌, Bool, cond, ◌==◌}
+use Rattle.std.specs.Prelude.{◌+◌, ◌*◌, ◌^◌, cond, ◌==◌}
 use Rattle.lookup.specs.declared.access.AccessKey.{AccessKey}
 use Rattle.lookup.specs.declared.access.AccessAnswer.{AccessAnswer}
 use Rattle.lookup.specs.declared.page.PageKey.{PageKey}

@@ -1,7 +1,6 @@
 -- Ten worked cases of the two lookups, computed from the definitions.
-use Rattle.std.specs.Prelude.{◌≡◌, ℕ, ◌+◌, ◌*◌, ◌/◌, false, cond, List, [], ◌∷◌, Some, None, Ok, Err, Option, Result, ◌==◌}
-use Rattle.arch.specs.declared.condition.Condition.{Condition}
-use Rattle.arch.specs.declared.condition.Condition.TheVariants.{Segment, PageTranslation, TranslationSpecification, AlenTranslation, Addressing}
+use Rattle.std.specs.Prelude.{◌≡◌, ℕ, ◌*◌, ◌/◌, false, cond, List, [], ◌∷◌, Some, None, Ok, Err, Option, ◌==◌}
+use Rattle.arch.specs.declared.condition.Condition.TheVariants.{Segment, PageTranslation, TranslationSpecification, AlenTranslation}
 use Rattle.arch.specs.Walks.{Seen}
 use Rattle.lookup.specs.declared.access.AccessAnswer.{AccessAnswer}
 use Rattle.lookup.specs.declared.page.PageAnswer.{PageAnswer}

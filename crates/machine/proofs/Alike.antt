@@ -4,7 +4,7 @@ use borrow.Author.Tests.{clash}
 use Rattle.arch.specs.declared.call.Access.{Access}
 use Rattle.arch.specs.declared.condition.Condition.{Condition}
 use Rattle.arch.specs.declared.condition.Condition.TheVariants.{BadNumber, ShortList, LowAddress, Addressing, Key}
-use Rattle.arch.specs.Walks.{Walk, Seen, given, refused, onward, then, over, Agree}
+use Rattle.arch.specs.Walks.{Walk, Seen, given, onward, then, over, Agree}
 use Rattle.arch.proofs.Walks.{over_local}
 use Rattle.storage.specs.Views.{View, block_of}
 use Rattle.lookup.specs.declared.access.AccessKey.{AccessKey}
@@ -16,9 +16,9 @@ use Rattle.lookup.specs.Pages.{page_limit, page_walk}
 use Rattle.lookup.specs.Lookups.{access_asks, page_asks}
 use Rattle.lookup.specs.Sources.{asked}
 use Rattle.machine.specs.Registers.{Registers}
-use Rattle.machine.specs.Translation.{unless, cut, access_key, held_in, looked_up, space_of_token, space_of_register, space_by_mode, token_asks, register_asks, mode_asks, low_protected, page_key, framed, real_of, space_asks, page_asked, key_protected, reached, reach, translation}
+use Rattle.machine.specs.Translation.{unless, cut, access_key, held_in, looked_up, space_of_token, space_of_register, space_by_mode, token_asks, register_asks, mode_asks, low_protected, page_key, framed, real_of, space_asks, page_asked, key_protected, reached}
 use Rattle.machine.specs.Calls.{refuses_translation}
-use Rattle.machine.specs.Law.{SeenBy, translated, space_seen, real_seen, Alike, AnswersAlike}
+use Rattle.machine.specs.Law.{SeenBy, translated, space_seen, Alike, AnswersAlike}
 use Rattle.machine.proofs.Few.{translation_short}
 
 module _ (w v : ℕ → Option ℕ) where

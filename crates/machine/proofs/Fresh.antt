@@ -1,5 +1,5 @@
 -- A translation over sources whose answers were fresh once gives, where nothing changed, what it gives with bare ones.
-use Rattle.std.proofs.Common.{◌≡◌, ℕ, zero, suc, ◌%◌, ◌^◌, ◌<◌, Bool, true, false, cond, not, ◌||◌, eqb, ltb, ◌⊎◌, List, ◌∷◌, get_or, is_some, Some, None, Ok, Option, Result, sym, refl, ap, ◌∙◌, subst, inl, inr, arith}
+use Rattle.std.proofs.Common.{◌≡◌, ℕ, zero, suc, ◌%◌, ◌^◌, ◌<◌, Bool, true, false, cond, not, ◌||◌, eqb, ltb, ◌⊎◌, List, ◌∷◌, get_or, is_some, Some, None, Ok, Option, Result, refl, ap, ◌∙◌, subst, inl, inr, arith}
 use borrow.Author.Tests.{clash}
 use Rattle.arch.specs.declared.call.Access.{Access}
 use Rattle.arch.specs.declared.condition.Condition.{Condition}
@@ -20,7 +20,7 @@ use Rattle.machine.specs.Calls.{refuses_translation}
 use Rattle.machine.specs.Registers.{Registers}
 use Rattle.machine.specs.Runs.{Shown, Translating}
 use Rattle.machine.specs.Translation.{unless, cut, access_key, token_asks, register_asks, mode_asks, page_asked, space_by_mode, translation}
-use Rattle.machine.specs.Law.{Bounded, Steady, Once, Sound, FreshOnce, UnchangedFor, FreshAnswer, AnswersFresh}
+use Rattle.machine.specs.Law.{Bounded, Steady, Once, Sound, FreshOnce, UnchangedFor, AnswersFresh}
 use Rattle.machine.proofs.Results.{then_same, result_same}
 use Rattle.machine.proofs.Sound.{asked_now, sound_shown}
 

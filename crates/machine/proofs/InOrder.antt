@@ -1,5 +1,5 @@
 -- A translation that is walked afresh meets its conditions in the order of its table.
-use Rattle.std.proofs.Common.{◌≡◌, ℕ, zero, suc, Bool, true, false, cond, ◌&&◌, eqb, ltb, List, [], ◌∷◌, ◌++◌, get_or, Some, None, Option, Result, sym, refl, ap, ◌∙◌, ap₂}
+use Rattle.std.proofs.Common.{◌≡◌, ℕ, zero, suc, Bool, true, false, cond, ◌&&◌, eqb, ltb, List, [], ◌∷◌, ◌++◌, get_or, Some, None, Option, refl, ap, ◌∙◌}
 use mathlib.Core.Path.{fun_ext}
 use Rattle.arch.specs.declared.call.Access.{Access}
 use Rattle.arch.specs.declared.condition.Condition.{Condition}
@@ -8,16 +8,14 @@ use Rattle.arch.specs.Order.{Row, row, first_of, verdict, Ordered}
 use Rattle.arch.specs.Walks.{Seen, given, onward, then}
 use Rattle.arch.proofs.Ordered.{ordered_then}
 use Rattle.storage.specs.Views.{View, block_of}
-use Rattle.lookup.specs.declared.access.AccessKey.{AccessKey}
 use Rattle.lookup.specs.declared.access.AccessAnswer.{AccessAnswer}
-use Rattle.lookup.specs.declared.page.PageAnswer.{PageAnswer}
 use Rattle.lookup.specs.Lookups.{access_fresh, page_fresh}
 use Rattle.lookup.specs.Sources.{asked, Silent}
 use Rattle.lookup.specs.Orders.{access_rows, access_found, paging_rows, paging_found}
 use Rattle.lookup.proofs.InOrder.{access_ordered, paging_ordered}
 use Rattle.machine.specs.Registers.{Registers}
-use Rattle.machine.specs.Orders.{plain, token_space, register_space, mode_space, lookup_rows, space_rows, space_real, reach_rows, space_found, real_found, translation_rows}
-use Rattle.machine.specs.Translation.{unless, is_store, cut, access_key, real_address, key_protected, held_in, looked_up, space_of_token, space_of_register, space_by_mode, token_asks, register_asks, mode_asks, low_protected, page_key, framed, by_page, real_of, reached, reach, translation}
+use Rattle.machine.specs.Orders.{plain, token_space, register_space, mode_space, lookup_rows, space_rows, space_real, reach_rows, real_found, translation_rows}
+use Rattle.machine.specs.Translation.{unless, is_store, cut, access_key, real_address, key_protected, held_in, looked_up, space_of_token, space_of_register, space_by_mode, token_asks, register_asks, mode_asks, low_protected, page_key, framed, real_of, reached, reach, translation}
 
 unless_first : {B : Type 0} (c : Condition) (t : Bool) (s : Seen B) (rows : List Row) (b : B) → Ordered rows b s.result → Ordered (row c t ∷ rows) b (then (unless c t) (λ _. s)).result
 unless_first c true s rows b p = refl

@@ -1,7 +1,6 @@
 -- What a source holds was fresh at a moment since its latest purge, and stays so from call to call.
-use Rattle.std.proofs.Common.{◌≡◌, ℕ, Bool, true, false, cond, ◌⊎◌, List, [], ◌∷◌, Some, None, Ok, MatchBool, Option, sym, refl, ap, ◌∙◌, subst, inl, inr}
-use Rattle.std.specs.List.{AllByRecursion}
-use Rattle.arch.specs.Walks.{Walk, Seen, over, Agree}
+use Rattle.std.proofs.Common.{◌≡◌, ℕ, Bool, true, false, cond, ◌⊎◌, List, [], ◌∷◌, Some, None, Ok, MatchBool, Option, sym, refl, ap, ◌∙◌, inl, inr}
+use Rattle.arch.specs.Walks.{Walk, Seen, over}
 use Rattle.arch.proofs.Walks.{over_local}
 use Rattle.lookup.specs.Sources.{asked, Kept, Empty}
 use Rattle.machine.specs.Law.{Once, FreshOnce, Steady, Sound}

@@ -1,5 +1,5 @@
 -- Steps of a translation that list nothing.
-use Rattle.std.proofs.Common.{◌≡◌, ℕ, ◌+◌, Bool, true, false, cond, eqb, List, [], length, is_err, Some, None, Ok, Option, Result, sym, refl, ap, ◌∙◌, subst, add-zero, arith, ne_eqb}
+use Rattle.std.proofs.Common.{◌≡◌, ℕ, ◌+◌, Bool, true, false, cond, eqb, List, [], length, is_err, Some, None, Ok, Option, Result, sym, refl, ap, ◌∙◌, add-zero, arith, ne_eqb}
 use borrow.Author.Tests.{clash}
 use Rattle.arch.specs.declared.call.Access.{Access}
 use Rattle.arch.specs.declared.condition.Condition.{Condition}

@@ -1,5 +1,5 @@
 -- A translation that is not refused, over the prefix layer that the call has set.
-use Rattle.std.proofs.Common.{◌≡◌, ℕ, ◌%◌, ◌^◌, ◌<◌, ◌≤◌, Bool, true, false, cond, not, ◌&&◌, ◌||◌, eqb, ltb, List, [], ◌∷◌, ◌++◌, length, is_ok, Ok, Err, Option, Result, sym, refl, ap, ◌∙◌, subst, ap₂, subst₂, append-nil, zero-add, arith, le-ltb, lt-ltb, eq-eqb}
+use Rattle.std.proofs.Common.{◌≡◌, ℕ, ◌%◌, ◌^◌, ◌<◌, ◌≤◌, Bool, true, false, cond, not, ◌&&◌, ◌||◌, eqb, ltb, List, [], ◌∷◌, ◌++◌, length, is_ok, Ok, Err, Result, sym, refl, ap, ◌∙◌, subst, ap₂, subst₂, append-nil, zero-add, arith, le-ltb, lt-ltb, eq-eqb}
 use borrow.Author.Tests.{clash}
 use Rattle.arch.specs.declared.call.Access.{Access}
 use Rattle.arch.specs.declared.condition.Condition.{Condition}
@@ -7,7 +7,7 @@ use Rattle.arch.specs.declared.condition.Condition.TheVariants.{BadNumber, Unali
 use Rattle.arch.specs.Order.{Row, row, first_of}
 use Rattle.arch.specs.Walks.{Seen, refused, Stepped, onward, then, written}
 use Rattle.storage.specs.Views.{View}
-use Rattle.storage.specs.Prefixes.{lawful_prefix, prefixed}
+use Rattle.storage.specs.Prefixes.{lawful_prefix}
 use Rattle.lookup.specs.declared.access.AccessKey.{AccessKey}
 use Rattle.lookup.specs.declared.access.AccessAnswer.{AccessAnswer}
 use Rattle.lookup.specs.declared.page.PageKey.{PageKey}

@@ -1,10 +1,10 @@
 -- Fetch and store: a translation, and then the doubleword.
-use Rattle.std.specs.Prelude.{ℕ, ◌%◌, Bool, cond, not, ◌||◌, [], Some, None, Ok, Err, Option, Result, ◌==◌, nat_lt}
+use Rattle.std.specs.Prelude.{ℕ, ◌%◌, Bool, not, ◌||◌, [], Some, None, Ok, Err, Option, Result, ◌==◌, nat_lt}
 use Rattle.arch.specs.declared.call.Access.{Access}
 use Rattle.arch.specs.declared.call.Access.TheVariants.{Fetch, Store}
 use Rattle.arch.specs.declared.condition.Condition.{Condition}
 use Rattle.arch.specs.declared.condition.Condition.TheVariants.{BadNumber, Unaligned, ShortList, Addressing}
-use Rattle.arch.specs.Walks.{Seen, given, refused, then}
+use Rattle.arch.specs.Walks.{Seen, then}
 use Rattle.storage.specs.Views.{View}
 use Rattle.lookup.specs.declared.access.AccessKey.{AccessKey}
 use Rattle.lookup.specs.declared.access.AccessAnswer.{AccessAnswer}

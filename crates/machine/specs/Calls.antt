@@ -1,12 +1,12 @@
 -- What the calls do.
-use Rattle.std.specs.Prelude.{◌≡◌, ℕ, ◌%◌, ◌^◌, ◌≤◌, Bool, true, false, cond, not, ◌||◌, List, length, set, replicate, Some, None, Ok, Err, Option, Result, ◌==◌, nat_lt, slice_set}
+use Rattle.std.specs.Prelude.{◌≡◌, ℕ, ◌%◌, ◌^◌, ◌≤◌, Bool, cond, not, ◌||◌, List, length, replicate, Some, None, Ok, Err, Option, Result, ◌==◌, nat_lt, slice_set}
 use Rattle.arch.specs.declared.call.SourceName.{SourceName}
 use Rattle.arch.specs.declared.call.SourceName.TheVariants.{AccessRegister, Page}
 use Rattle.arch.specs.declared.condition.Condition.{Condition}
 use Rattle.arch.specs.declared.condition.Condition.TheVariants.{BadNumber, Unaligned}
 use Rattle.arch.specs.Walks.{Seen, written}
 use Rattle.storage.specs.Views.{View, after_put, put_result}
-use Rattle.storage.specs.Prefixes.{exchange, lawful_prefix}
+use Rattle.storage.specs.Prefixes.{exchange}
 use Rattle.machine.specs.declared.registers.Control.{Control}
 use Rattle.machine.specs.Registers.{Registers}
 

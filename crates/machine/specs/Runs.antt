@@ -1,5 +1,5 @@
 -- One call of a machine: what comes of it, and the registers, the storage and the sources after it.
-use Rattle.std.specs.Prelude.{◌≡◌, ℕ, Bool, true, false, cond, length, Some, None, Ok, Err, MatchBool, Option, Result}
+use Rattle.std.specs.Prelude.{ℕ, Bool, true, false, cond, length, Some, None, Ok, Err, MatchBool, Option}
 use Rattle.std.specs.Option.{unwrap_or}
 use Rattle.arch.specs.declared.call.Access.{Access}
 use Rattle.arch.specs.declared.call.Access.TheVariants.{Fetch, Store}
@@ -7,7 +7,6 @@ use Rattle.arch.specs.declared.call.Call.{Call}
 use Rattle.arch.specs.declared.call.Call.TheVariants as call
 use Rattle.arch.specs.declared.call.SourceName.{SourceName}
 use Rattle.arch.specs.declared.call.SourceName.TheVariants.{AccessRegister, Page}
-use Rattle.arch.specs.declared.condition.Condition.{Condition}
 use Rattle.arch.specs.declared.condition.Condition.TheVariants.{BadPrefix}
 use Rattle.arch.specs.Walks.{Seen}
 use Rattle.storage.specs.Views.{View}

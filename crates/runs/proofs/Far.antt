@@ -1,5 +1,5 @@
 -- How far a run has come: the law of the calls made, and where machine, storage and sources stand.
-use Rattle.std.proofs.Common.{◌≡◌, ℕ, ◌+◌, ◌<◌, ◌≤◌, List, [], ◌∷◌, ◌++◌, length, get_or, take, drop, set, Option, sym, refl, ap, ◌∙◌, subst, subst₂, arith, length-take, drop-drop, drop-set-lt}
+use Rattle.std.proofs.Common.{◌≡◌, ℕ, ◌+◌, ◌<◌, List, [], ◌∷◌, ◌++◌, length, get_or, take, drop, set, Option, sym, refl, ap, ◌∙◌, subst, subst₂, arith, length-take, drop-drop, drop-set-lt}
 use Rattle.std.proofs.lemmas.List.{take_more, take_more_set, take_all}
 use Rattle.arch.specs.Walks.{Seen}
 use Rattle.storage.specs.Views.{View}
@@ -10,7 +10,6 @@ use Rattle.lookup.specs.declared.page.PageAnswer.{PageAnswer}
 use Rattle.machine.specs.declared.request.Outcome.{Outcome}
 use Rattle.machine.specs.declared.request.Request.{Request}
 use Rattle.machine.specs.Registers.{Registers}
-use Rattle.machine.specs.Runs.{Shown}
 use Rattle.machine.specs.Law.{State, Stands, KeepsLaw, start, next, shown_by, ArtsPass, PagesPass, Lawful, Ran}
 
 module _ {A P : Type 0} (arts_show : A → AccessKey → Option AccessAnswer) (arts_move : A → (AccessKey → Seen AccessAnswer) → AccessKey → A → Type 0) (arts_clear : A → A → Type 0)

@@ -1,5 +1,5 @@
 -- A call that starts where its sources are sound is fresh where nothing changed.
-use Rattle.std.proofs.Common.{◌≡◌, refl, ap}
+use Rattle.std.proofs.Common.{refl, ap}
 use Rattle.arch.specs.declared.call.Access.TheVariants.{Fetch, Store}
 use Rattle.arch.specs.declared.call.Call.TheVariants as call
 use Rattle.lookup.specs.Access.{AccessFits}
@@ -11,7 +11,7 @@ use Rattle.machine.specs.declared.request.Request.TheVariants as request
 use Rattle.machine.specs.Accesses.{plainly, value_there, accessing, stored_at}
 use Rattle.machine.specs.Calls.{put_answer}
 use Rattle.machine.specs.Runs.{Shown, real_view, places}
-use Rattle.machine.specs.Law.{State, Bounded, seen_now, arts_since, pages_since, FreshOnce, FreshNow}
+use Rattle.machine.specs.Law.{State, Bounded, arts_since, pages_since, FreshOnce, FreshNow}
 use Rattle.machine.proofs.Fresh.{translated_fresh, accessed_fresh}
 use Rattle.machine.proofs.Results.{then_same}
 

@@ -1,5 +1,5 @@
 -- Where a machine and its sources stand from call to call.
-use Rattle.std.proofs.Common.{◌≡◌, ℕ, zero, suc, ◌^◌, ◌<◌, Bool, true, false, cond, not, ◌||◌, ltb, List, [], ◌∷◌, get_or, set, replicate, Some, None, MatchBool, Option, unwrap_or, sym, refl, ap, ◌∙◌, subst, subst₂, arith, ltb-true}
+use Rattle.std.proofs.Common.{◌≡◌, ℕ, zero, suc, ◌^◌, ◌<◌, Bool, true, false, cond, not, ◌||◌, ltb, List, [], ◌∷◌, get_or, set, replicate, Some, None, MatchBool, Option, unwrap_or, sym, refl, subst₂, arith, ltb-true}
 use borrow.Author.Tests.{clash}
 use Rattle.arch.specs.declared.call.Call.{Call}
 use Rattle.arch.specs.declared.call.Call.TheVariants as call
@@ -18,7 +18,7 @@ use Rattle.machine.specs.declared.registers.Control.{Control}
 use Rattle.machine.specs.declared.request.Outcome.{Outcome}
 use Rattle.machine.specs.declared.request.Request.{Request}
 use Rattle.machine.specs.declared.request.Request.TheVariants as request
-use Rattle.machine.specs.Calls.{control_set, with_control, load_control, load_access, load_mode, with_prefix, zero_registers}
+use Rattle.machine.specs.Calls.{control_set, with_control, with_prefix, zero_registers}
 use Rattle.machine.specs.Registers.{Registers}
 use Rattle.machine.specs.Runs.{Shown, real_view, outcome_of, line_registers, registers_after, view_after, purges}
 use Rattle.machine.specs.Law.{State, Bounded, Stands, KeepsLaw, seen_now, arts_since, pages_since, start, next}

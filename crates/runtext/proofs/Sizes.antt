@@ -1,5 +1,5 @@
 -- A call's line has four bytes or more.
-use Rattle.std.proofs.Common.{ℕ, ◌+◌, ◌*◌, ◌≤◌, List, [], ◌∷◌, ◌++◌, map, length, arith, length-append}
+use Rattle.std.proofs.Common.{ℕ, ◌*◌, ◌≤◌, List, [], ◌∷◌, map, length, arith, length-append}
 use Rattle.arch.specs.declared.call.Call.{Call}
 use Rattle.arch.specs.declared.call.Call.TheVariants as call
 use Rattle.std.specs.List.{flat_map}

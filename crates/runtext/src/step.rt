@@ -42,7 +42,11 @@ pub(crate) fn after_header(text: &[u8]) -> Option<&[u8]>
     ensures { Reads (option_map (λ x. x.now) result) (λ _. Unit {0}) (λ x. header ++ x) text.now }
 {
     let (line, after) = cut(text, LINE_END);
-    if line == b"RUN\t1".as_slice() { after } else { None }
+    if line == b"RUN\t1".as_slice() {
+        after
+    } else {
+        None
+    }
 }
 
 // Why the line that `rest` begins with is refused.

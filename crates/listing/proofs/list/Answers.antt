@@ -1,5 +1,4 @@
 use Rattle.std.proofs.Common.{◌≡◌, length, IfOk, string_bytes, ◌∙◌, subst, rules}
-use Rattle.runtext.specs.declared.Counts.{Counts}
 use Rattle.runtext.specs.Runs.{lent}
 use Rattle.std.proofs.lemmas.Result.{IfOk-from_err}
 use Rattle.listing.specs.Listings.{places, Lists}

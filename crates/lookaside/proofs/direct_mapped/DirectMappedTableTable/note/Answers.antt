@@ -1,6 +1,5 @@
-use Rattle.std.proofs.Common.{◌≡◌, ◌<◌, ◌⊎◌, length, set, subst, ap₂, arith}
-use Rattle.lookup.specs.declared.words.Words.{Words}
-use Rattle.lookaside.specs.Rows.{full_row, direct_row, KeptRow}
+use Rattle.std.proofs.Common.{◌<◌, length, set, subst, ap₂, arith}
+use Rattle.lookaside.specs.Rows.{direct_row, KeptRow}
 use Rattle.lookaside.proofs.Tables.{kept_set}
 use Rattle.lookaside.proofs.direct_mapped.DirectMappedTableTable.note.Goals as goal
 

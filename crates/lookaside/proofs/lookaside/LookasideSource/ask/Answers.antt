@@ -1,4 +1,4 @@
-use Rattle.std.proofs.Common.{◌≡◌, ◌⊎◌, None, Ok, sym, ap, ◌∙◌, subst, subst₂, inl, inr}
+use Rattle.std.proofs.Common.{◌≡◌, ◌⊎◌, None, Ok, sym, ap, ◌∙◌, subst, subst₂}
 use Rattle.arch.specs.Walks.{Stepped, over}
 use Rattle.lookup.specs.Sources.{asked}
 use Rattle.lookup.specs.declared.words.Words.{Words}

@@ -1,5 +1,5 @@
-use Rattle.std.proofs.Common.{◌≡◌, ◌<◌, length, set, refl, ap, subst, arith}
-use Rattle.lookaside.specs.Rows.{full_row, KeptRow}
+use Rattle.std.proofs.Common.{◌<◌, length, set, refl, ap, subst, arith}
+use Rattle.lookaside.specs.Rows.{KeptRow}
 use Rattle.lookaside.proofs.Tables.{kept_set}
 use Rattle.lookaside.proofs.round_robin.RoundRobinTableTable.note.Goals as goal
 

@@ -1,4 +1,4 @@
-use Rattle.std.proofs.Common.{◌≡◌, ℕ, ◌%◌, cond, not, eqb, ltb, length, None, sym, refl, ap, ◌∙◌, subst, ap₂, inl, rules, le-ltb, lt-ltb, eq-eqb, ne_eqb}
+use Rattle.std.proofs.Common.{◌≡◌, ℕ, ◌%◌, cond, not, eqb, ltb, length, None, sym, refl, ap, ◌∙◌, subst, inl, rules, le-ltb, lt-ltb, eq-eqb, ne_eqb}
 use borrow.Author.Tests.{clash}
 use Rattle.arch.specs.declared.condition.Condition.TheVariants.{BadNumber, Unaligned, ShortList}
 use Rattle.lookup.specs.declared.access.AccessKey.{AccessKey}
@@ -7,7 +7,7 @@ use Rattle.lookup.specs.declared.page.PageKey.{PageKey}
 use Rattle.lookup.specs.declared.page.PageAnswer.{PageAnswer}
 use Rattle.machine.specs.Runs.{Shown}
 use Rattle.machine.proofs.Fresh.{aligned_asked, accessed_fresh, answers_fresh, unasked_fresh}
-use Rattle.arch.specs.Order.{first_of, verdict}
+use Rattle.arch.specs.Order.{verdict}
 use Rattle.arch.specs.Walks.{Seen, then}
 use Rattle.storage.specs.Prefixes.{prefixed}
 use Rattle.lookup.specs.Lookups.{access_fresh, page_fresh, access_asks, page_asks}

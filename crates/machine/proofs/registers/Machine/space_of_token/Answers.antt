@@ -2,7 +2,6 @@ use Rattle.std.proofs.Common.{Some, ap, ◌∙◌, subst}
 use Rattle.arch.specs.Walks.{Stepped}
 use Rattle.lookup.specs.Lookups.{access_fresh, access_asks}
 use Rattle.lookup.specs.Sources.{Moved}
-use Rattle.lookup.specs.declared.access.AccessKey.{AccessKey}
 use Rattle.machine.specs.Registers.{registers}
 use Rattle.machine.specs.Translation.{looked_up}
 use Rattle.machine.proofs.Steps.{token_looked_up, token_asked}

@@ -1,14 +1,13 @@
-use Rattle.std.proofs.Common.{◌≡◌, ◌%◌, not, eqb, ltb, length, is_ok, Ok, Err, sym, refl, ap, ◌∙◌, ap₂}
+use Rattle.std.proofs.Common.{◌≡◌, ◌%◌, not, eqb, ltb, length, is_ok, sym, refl, ap, ◌∙◌, ap₂}
 use borrow.Author.Tests.{clash}
-use Rattle.arch.specs.declared.call.Access.TheVariants.{Fetch, Store}
-use Rattle.arch.specs.Order.{value}
+use Rattle.arch.specs.declared.call.Access.TheVariants.{Store}
 use Rattle.storage.specs.Prefixes.{prefixed}
 use Rattle.lookup.specs.Lookups.{access_fresh, page_fresh, access_asks, page_asks}
-use Rattle.machine.specs.Accesses.{plainly, value_there, accessing, stored_at}
+use Rattle.machine.specs.Accesses.{plainly, accessing, stored_at}
 use Rattle.machine.specs.Calls.{put_answer, put_under}
 use Rattle.machine.specs.Orders.{accessing_rows, real_found}
 use Rattle.machine.specs.Registers.{registers}
-use Rattle.machine.proofs.Accesses.{refused_ordered, fetched_ordered, stored_ordered, fetched_there, stored_there, ok_same}
+use Rattle.machine.proofs.Accesses.{refused_ordered, stored_ordered, stored_there}
 use Rattle.machine.proofs.Results.{then_same}
 use Rattle.machine.proofs.Whole.{counts_then, counts_as, answered_unrefused}
 use Rattle.machine.proofs.registers.Machine.store.Goals as goal

@@ -1,4 +1,4 @@
-use Rattle.std.proofs.Common.{◌≡◌, ℕ, Bool, false, cond, ◌||◌, ltb, length, None, sym, refl, ap, ◌∙◌, subst, ap₂, inl, rules, le-ltb, lt-ltb}
+use Rattle.std.proofs.Common.{◌≡◌, ℕ, false, cond, ◌||◌, ltb, length, None, sym, refl, ap, ◌∙◌, subst, ap₂, inl, rules, le-ltb, lt-ltb}
 use borrow.Author.Tests.{clash}
 use Rattle.arch.specs.declared.condition.Condition.TheVariants.{BadNumber, ShortList}
 use Rattle.lookup.specs.declared.access.AccessKey.{AccessKey}
