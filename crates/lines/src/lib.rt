@@ -11,8 +11,7 @@ use runtext::Refusal;
 use std::fmt;
 use std::fmt::{Display, Formatter, Write};
 
-// A number as run texts have it: lower-case hexadecimal, no leading zero, and 0 for zero. (`{n:x}`
-// prints the same, but its contract does not say so.)
+// A number as run texts have it: lower-case hexadecimal, no leading zero, and 0 for zero.
 #[derive(Clone, Copy)]
 pub struct Hex(pub u64);
 
