@@ -11,7 +11,6 @@ use std::process::Abort;
 use std::test::Fail;
 use storage::prefix::Prefixed;
 use storage::sparse::Sparse;
-use storage::storage::Storage;
 
 type Stack = RoundRobin<DirectMapped<RoundRobin<TableWalk>>>;
 
@@ -136,12 +135,12 @@ fn refuses_accesses(rt: HostRuntime) {
 fn fetched(
     rt: &impl Abort,
     outcome: Outcome,
-    res: Result<u64, Condition>,
+    expected: Result<u64, Condition>,
     count: usize,
 ) -> Result<(), Fail> {
     match outcome {
         Outcome::Fetched(counted) => {
-            assert_eq!(rt; counted.result, res);
+            assert_eq!(rt; counted.result, expected);
             assert_eq!(rt; counted.count, count);
             Ok(())
         }

@@ -12,7 +12,6 @@ mod texts;
 #[cfg(test)]
 mod tests {
     use super::*;
-    use lookaside::table::Table;
     use std::alloc::{AllocError, Global};
     use std::process::Abort;
     use std::test::Fail;

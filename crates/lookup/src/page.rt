@@ -1,5 +1,5 @@
 // The page lookup.
-ghost use Rattle.std.specs.Prelude.{◌≡◌, ◌+◌, ◌*◌, ◌^◌, ◌<◌, ◌≤◌, length};
+ghost use Rattle.std.specs.Prelude.{◌≡◌, ◌+◌, ◌*◌, ◌<◌, ◌≤◌, length};
 ghost use Rattle.arch.specs.Walks.{Walked};
 ghost use Rattle.lookup.specs.Pages.{page_limit, level_condition, index as table_index, outside, table_below, table_of, valid_entry, table_entry as entry_of, page_entry as final_entry, descend as descending, through_tables as by_tables, page_walk};
 

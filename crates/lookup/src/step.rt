@@ -1,6 +1,6 @@
 // The steps that both lookups are made of.
 ghost use Rattle.std.specs.Prelude.{◌≡◌, ◌^◌, ◌<◌, ◌≤◌, length};
-ghost use Rattle.arch.specs.Walks.{Walked, read as reading, check as checking};
+ghost use Rattle.arch.specs.Walks.{Walked, read as reading};
 ghost use Rattle.lookup.specs.Checks.{checked};
 
 use arch::condition::Condition;

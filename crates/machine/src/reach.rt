@@ -1,5 +1,5 @@
 // From an address to the doubleword that it reaches.
-ghost use Rattle.std.specs.Prelude.{◌≡◌, ◌+◌, ◌^◌, ◌<◌, ◌≤◌, [], length, Some};
+ghost use Rattle.std.specs.Prelude.{◌≡◌, ◌+◌, ◌<◌, ◌≤◌, [], length, Some};
 ghost use Rattle.arch.specs.Walks.{Stepped};
 ghost use Rattle.lookup.specs.Access.{AccessFits};
 ghost use Rattle.lookup.specs.Lookups.{access_fresh, page_fresh, access_asks, page_asks};

@@ -1,11 +1,11 @@
 // From the mode and an access register to an address space.
-ghost use Rattle.std.specs.Prelude.{◌≡◌, ◌+◌, ◌^◌, ◌<◌, ◌≤◌, false, length, Some};
+ghost use Rattle.std.specs.Prelude.{◌≡◌, ◌+◌, ◌<◌, ◌≤◌, false, length, Some};
 ghost use Rattle.arch.specs.Walks.{Stepped};
 ghost use Rattle.lookup.specs.Access.{AccessFits};
 ghost use Rattle.lookup.specs.Lookups.{access_fresh, access_asks};
 ghost use Rattle.lookup.specs.Sources.{Kept, Moved};
 ghost use Rattle.machine.specs.Registers.{registers};
-ghost use Rattle.machine.specs.Translation.{designation_address, access_key as key_of, looked_up, space_of_token, space_of_register, space_by_mode, token_asks, register_asks, mode_asks};
+ghost use Rattle.machine.specs.Translation.{access_key as key_of, looked_up, space_of_token, space_of_register, space_by_mode, token_asks, register_asks, mode_asks};
 
 use crate::registers::Machine;
 use arch::bits::{field, flag};

@@ -7,7 +7,7 @@ ghost use Rattle.lookup.specs.Sources.{Kept, Empty};
 ghost use Rattle.lookup.specs.Spelling.{PageFits};
 ghost use Rattle.machine.specs.Law.{State, Stands, KeepsLaw, next, ArtsPass, PagesPass};
 ghost use Rattle.machine.specs.Registers.{registers};
-ghost use Rattle.machine.specs.Runs.{Shown, real_view, line_outcome, line_registers, line_view, line_purges, line_translates, outcome_of, registers_after, view_after, purges, translates, art_asked, page_asked_by, Passed};
+ghost use Rattle.machine.specs.Runs.{real_view, line_outcome, line_registers, line_view, line_purges, line_translates, outcome_of, registers_after, view_after, purges, art_asked, page_asked_by, Passed};
 
 use arch::call::Call;
 use lookup::kinds::{AccessRegister, Paging};
@@ -24,9 +24,9 @@ fn line<S: Storage, A: Source<AccessRegister>, P: Source<Paging>>(
     pages: &mut P,
     call: Call,
 ) -> Outcome
-    ensures outcome { result ≡ line_outcome (registers machine.old) (record { arts = A.Source.shows arts.entry.now; pages = P.Source.shows pages.old }) (S.Storage.view storage.old.beneath) call }
+    ensures outcome { result ≡ line_outcome (registers machine.old) (record { arts = A.Source.shows arts.old; pages = P.Source.shows pages.old }) (S.Storage.view storage.old.beneath) call }
     ensures registers { registers machine.new ≡ line_registers (registers machine.old) call }
-    ensures storage { S.Storage.view storage.new.beneath ≡ line_view (registers machine.old) (record { arts = A.Source.shows arts.entry.now; pages = P.Source.shows pages.old }) (S.Storage.view storage.old.beneath) call }
+    ensures storage { S.Storage.view storage.new.beneath ≡ line_view (registers machine.old) (record { arts = A.Source.shows arts.old; pages = P.Source.shows pages.old }) (S.Storage.view storage.old.beneath) call }
     ensures arts { Passed (line_purges named.AccessRegister call) (art_asked (registers machine.old) (line_translates call)) A.Source.clears (A.Source.moves arts.old (access_fresh (real_view (registers machine.old) (S.Storage.view storage.old.beneath)).word)) arts.old arts.new }
     ensures pages { Passed (line_purges named.Page call) (page_asked_by (registers machine.old) (access_asks (A.Source.shows arts.old) (real_view (registers machine.old) (S.Storage.view storage.old.beneath)).word) (line_translates call)) P.Source.clears (P.Source.moves pages.old (page_fresh (real_view (registers machine.old) (S.Storage.view storage.old.beneath)).word)) pages.old pages.new }
     ensures arts_held { MatchBool (line_purges named.AccessRegister call) (Empty (A.Source.holds arts.new)) (Kept AccessFits (access_fresh (real_view (registers machine.old) (S.Storage.view storage.old.beneath)).word) (A.Source.holds arts.old) (A.Source.holds arts.new)) }
@@ -69,11 +69,11 @@ fn perform<S: Storage, A: Source<AccessRegister>, P: Source<Paging>>(
     pages: &mut P,
     request: Request,
 ) -> Outcome
-    ensures outcome { result ≡ outcome_of (registers machine.old) (record { arts = A.Source.shows arts.entry.now; pages = P.Source.shows pages.old }) (S.Storage.view storage.old.beneath) request }
+    ensures outcome { result ≡ outcome_of (registers machine.old) (record { arts = A.Source.shows arts.old; pages = P.Source.shows pages.old }) (S.Storage.view storage.old.beneath) request }
     ensures registers { registers machine.new ≡ registers_after (registers machine.old) request }
-    ensures storage { S.Storage.view storage.new.beneath ≡ view_after (registers machine.old) (record { arts = A.Source.shows arts.entry.now; pages = P.Source.shows pages.old }) (S.Storage.view storage.old.beneath) request }
+    ensures storage { S.Storage.view storage.new.beneath ≡ view_after (registers machine.old) (record { arts = A.Source.shows arts.old; pages = P.Source.shows pages.old }) (S.Storage.view storage.old.beneath) request }
     ensures arts { ArtsPass A.Source.shows A.Source.moves A.Source.clears P.Source.shows P.Source.moves P.Source.clears (registers machine.old) (S.Storage.view storage.old.beneath) request arts.old arts.new }
-    ensures pages { PagesPass A.Source.shows A.Source.moves A.Source.clears P.Source.shows P.Source.moves P.Source.clears (registers machine.old) (S.Storage.view storage.old.beneath) (record { arts = A.Source.shows arts.entry.now; pages = P.Source.shows pages.old }) request pages.old pages.new }
+    ensures pages { PagesPass A.Source.shows A.Source.moves A.Source.clears P.Source.shows P.Source.moves P.Source.clears (registers machine.old) (S.Storage.view storage.old.beneath) (record { arts = A.Source.shows arts.old; pages = P.Source.shows pages.old }) request pages.old pages.new }
     ensures arts_held { MatchBool (purges named.AccessRegister request) (Empty (A.Source.holds arts.new)) (Kept AccessFits (access_fresh (real_view (registers machine.old) (S.Storage.view storage.old.beneath)).word) (A.Source.holds arts.old) (A.Source.holds arts.new)) }
     ensures pages_held { MatchBool (purges named.Page request) (Empty (P.Source.holds pages.new)) (Kept PageFits (page_fresh (real_view (registers machine.old) (S.Storage.view storage.old.beneath)).word) (P.Source.holds pages.old) (P.Source.holds pages.new)) }
 {
@@ -105,14 +105,14 @@ pub fn answer<S: Storage, A: Source<AccessRegister>, P: Source<Paging>>(
     pages: &mut P,
     request: Request,
 ) -> Outcome
-    ensures outcome { result ≡ outcome_of (registers machine.old) (record { arts = A.Source.shows arts.entry.now; pages = P.Source.shows pages.old }) (S.Storage.view storage.old.beneath) request }
+    ensures outcome { result ≡ outcome_of (registers machine.old) (record { arts = A.Source.shows arts.old; pages = P.Source.shows pages.old }) (S.Storage.view storage.old.beneath) request }
     ensures registers { registers machine.new ≡ registers_after (registers machine.old) request }
-    ensures storage { S.Storage.view storage.new.beneath ≡ view_after (registers machine.old) (record { arts = A.Source.shows arts.entry.now; pages = P.Source.shows pages.old }) (S.Storage.view storage.old.beneath) request }
+    ensures storage { S.Storage.view storage.new.beneath ≡ view_after (registers machine.old) (record { arts = A.Source.shows arts.old; pages = P.Source.shows pages.old }) (S.Storage.view storage.old.beneath) request }
     ensures arts { ArtsPass A.Source.shows A.Source.moves A.Source.clears P.Source.shows P.Source.moves P.Source.clears (registers machine.old) (S.Storage.view storage.old.beneath) request arts.old arts.new }
-    ensures pages { PagesPass A.Source.shows A.Source.moves A.Source.clears P.Source.shows P.Source.moves P.Source.clears (registers machine.old) (S.Storage.view storage.old.beneath) (record { arts = A.Source.shows arts.entry.now; pages = P.Source.shows pages.old }) request pages.old pages.new }
+    ensures pages { PagesPass A.Source.shows A.Source.moves A.Source.clears P.Source.shows P.Source.moves P.Source.clears (registers machine.old) (S.Storage.view storage.old.beneath) (record { arts = A.Source.shows arts.old; pages = P.Source.shows pages.old }) request pages.old pages.new }
     ensures arts_held { MatchBool (purges named.AccessRegister request) (Empty (A.Source.holds arts.new)) (Kept AccessFits (access_fresh (real_view (registers machine.old) (S.Storage.view storage.old.beneath)).word) (A.Source.holds arts.old) (A.Source.holds arts.new)) }
     ensures pages_held { MatchBool (purges named.Page request) (Empty (P.Source.holds pages.new)) (Kept PageFits (page_fresh (real_view (registers machine.old) (S.Storage.view storage.old.beneath)).word) (P.Source.holds pages.old) (P.Source.holds pages.new)) }
-    ensures law { (s : State) → Stands s (registers machine.old) (S.Storage.view storage.old.beneath) (A.Source.holds arts.entry.now) (P.Source.holds pages.old) → KeepsLaw s (record { arts = A.Source.shows arts.entry.now; pages = P.Source.shows pages.old }) request result × Stands (next s (record { arts = A.Source.shows arts.entry.now; pages = P.Source.shows pages.old }) request) (registers machine.new) (S.Storage.view storage.new.beneath) (A.Source.holds arts.exit.now) (P.Source.holds pages.new) }
+    ensures law { (s : State) → Stands s (registers machine.old) (S.Storage.view storage.old.beneath) (A.Source.holds arts.old) (P.Source.holds pages.old) → KeepsLaw s (record { arts = A.Source.shows arts.old; pages = P.Source.shows pages.old }) request result × Stands (next s (record { arts = A.Source.shows arts.old; pages = P.Source.shows pages.old }) request) (registers machine.new) (S.Storage.view storage.new.beneath) (A.Source.holds arts.new) (P.Source.holds pages.new) }
 {
     perform(machine, storage, arts, pages, request)
 }

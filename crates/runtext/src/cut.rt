@@ -1,5 +1,4 @@
 // Cuts of a text at a byte.
-ghost use Rattle.std.specs.Prelude.{◌≡◌};
 ghost use Rattle.std.specs.Option.{option_map};
 ghost use Rattle.runtext.specs.Reading.{Lacks, Cut};
 

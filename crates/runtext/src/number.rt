@@ -1,5 +1,5 @@
 // Numbers of a run text.
-ghost use Rattle.std.specs.Prelude.{◌≡◌, ◌^◌, ◌<◌};
+ghost use Rattle.std.specs.Prelude.{◌^◌, ◌<◌};
 ghost use Rattle.runtext.specs.Numerals.{hexit, numeral};
 ghost use Rattle.runtext.specs.Reading.{Reads};
 

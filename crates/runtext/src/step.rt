@@ -1,5 +1,5 @@
 // One line after another.
-ghost use Rattle.std.specs.Prelude.{◌≡◌, ◌++◌, Decides};
+ghost use Rattle.std.specs.Prelude.{◌++◌, Decides};
 ghost use Rattle.std.specs.Option.{option_map};
 ghost use Rattle.runtext.specs.Passes.{Steps, seen};
 ghost use Rattle.runtext.specs.Reading.{Reads};
