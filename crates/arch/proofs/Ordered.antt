@@ -3,18 +3,18 @@ use Rattle.std.proofs.Common.{◌≡◌, ℕ, Bool, true, false, cond, not, ◌|
 use Rattle.arch.specs.declared.condition.Condition.{Condition}
 use Rattle.arch.specs.declared.condition.Condition.TheVariants.{Addressing}
 use Rattle.arch.specs.Order.{Row, row, first_of, verdict, Ordered, value, missing}
-use Rattle.arch.specs.Walks.{Walk, answers, reads, ◌>>=◌, read, check, Seen, reading, over, onward, then, given}
+use Rattle.arch.specs.Walks.{Walk, answers, reads, ◌>>=◌, read, check, Traced, reading, over, onward, then, given}
 use Rattle.arch.proofs.Walks.{over_then}
 
 -- the rows of two steps
-pub ordered_then : {A B : Type 0} (s : Seen A) (k : A → Seen B) (rows more : List Row) (a : A) (b : B) → Ordered rows a s.result → Ordered more b (k a).result → Ordered (rows ++ more) b (then s k).result
-ordered_then {A} {B} s k rows more a b p q = ap (λ o. (onward s.list o k).result) p ∙ by rows
+pub ordered_then : {A B : Type 0} (s : Traced A) (k : A → Traced B) (rows more : List Row) (a : A) (b : B) → Ordered rows a s.result → Ordered more b (k a).result → Ordered (rows ++ more) b (then s k).result
+ordered_then {A} {B} s k rows more a b p q = ap (λ o. (onward s.trace o k).result) p ∙ by rows
   where
-    test : (r : Row) (t : Bool) (o n : Option Condition) → (onward s.list (verdict o a) k).result ≡ verdict n b → (onward s.list (verdict (cond t (Some r.condition) o) a) k).result ≡ verdict (cond t (Some r.condition) n) b
+    test : (r : Row) (t : Bool) (o n : Option Condition) → (onward s.trace (verdict o a) k).result ≡ verdict n b → (onward s.trace (verdict (cond t (Some r.condition) o) a) k).result ≡ verdict (cond t (Some r.condition) n) b
     test r true o n h = refl
     test r false o n h = h
 
-    by : (rs : List Row) → (onward s.list (verdict (first_of rs) a) k).result ≡ verdict (first_of (rs ++ more)) b
+    by : (rs : List Row) → (onward s.trace (verdict (first_of rs) a) k).result ≡ verdict (first_of (rs ++ more)) b
     by [] = q
     by (r ∷ rs) = test r r.applies (first_of rs) (first_of (rs ++ more)) (by rs)
 

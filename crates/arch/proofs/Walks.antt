@@ -1,14 +1,15 @@
 -- Laws of walks and of their steps.
-use Rattle.std.proofs.Common.{◌≡◌, ℕ, ◌+◌, ◌≤◌, Bool, true, false, ltb, List, [], ◌∷◌, ◌++◌, length, set, is_some, Some, None, Ok, Err, Option, Result, unwrap_or, sym, refl, ap, ◌∙◌, subst, ap₂, add-zero, arith, length-append}
+use Rattle.std.proofs.Common.{◌≡◌, ℕ, ◌+◌, ◌≤◌, Bool, true, false, ltb, List, [], ◌∷◌, ◌++◌, length, is_some, Some, None, Ok, Err, Option, Result, unwrap_or, sym, refl, ap, ◌∙◌, subst, arith, length-append}
+use Rattle.std.proofs.lemmas.List.{append_assoc}
 use borrow.Author.Tests.{clash}
 use Rattle.arch.specs.declared.condition.Condition.{Condition}
-use Rattle.arch.specs.Walks.{Walk, answers, raises, reads, ◌>>=◌, check, Seen, reading, over, onward, then, written, Stepped, Walked, asking, Agree, Local}
+use Rattle.arch.specs.Walks.{Walk, answers, raises, reads, ◌>>=◌, check, Traced, reading, over, onward, then, Gives, Walks, asking, Agree, SeesOnlyItsTrace}
 
 -- functions that agree everywhere read alike
-reading_next : {A B : Type 0} (at : ℕ) (b : Bool) (v : Option ℕ) (f : ℕ → Seen A) (g : A → Seen B) (h : ℕ → Seen B) → ((w : ℕ) → h w ≡ then (f w) g) → reading at b v h ≡ then (reading at b v f) g
+reading_next : {A B : Type 0} (at : ℕ) (b : Bool) (v : Option ℕ) (f : ℕ → Traced A) (g : A → Traced B) (h : ℕ → Traced B) → ((w : ℕ) → h w ≡ then (f w) g) → reading at b v h ≡ then (reading at b v f) g
 reading_next at false v f g h same = refl
 reading_next at true None f g h same = refl
-reading_next {A} {B} at true (Some w) f g h same = ap (asking at) (same w) ∙ shift (f w).list (f w).result
+reading_next {A} {B} at true (Some w) f g h same = ap (asking at) (same w) ∙ shift (f w).trace (f w).result
   where
     shift : (l : List ℕ) (r : Result A Condition) → asking at (onward l r g) ≡ onward (at ∷ l) r g
     shift l (Ok a) = refl
@@ -20,83 +21,74 @@ over_then limit word (answers a) k = refl
 over_then limit word (raises c) k = refl
 over_then limit word (reads at next) k = reading_next at (ltb at limit) (word at) (λ v. over limit word (next v)) (λ a. over limit word (k a)) (λ v. over limit word (next v >>= k)) (λ v. over_then limit word (next v) k)
 
--- what is written in two goes
-pub written_append : (places : List ℕ) (from : ℕ) (xs ys : List ℕ) → written places from (xs ++ ys) ≡ written (written places from xs) (from + length xs) ys
-written_append places from [] ys = rw add-zero refl
-written_append places from (x ∷ xs) ys =
-    let shifted : from + 1 + length xs ≡ from + length (x ∷ xs) = omega arith in
-    written_append (set places from x) (from + 1) xs ys ∙ ap (λ n. written (written (set places from x) (from + 1) xs) n ys) shifted
-
-module _ {A B : Type 0} {m : ℕ} {s : Seen A} {before : List ℕ} {from : ℕ} {mid : List ℕ} {at : ℕ} (k : A → Seen B) where
+module _ {A B : Type 0} {m : ℕ} {t : Traced A} {before mid : List ℕ} (k : A → Traced B) where
   -- a step that answers, and one that goes on from there
-  pub step_on : {n : ℕ} {after : List ℕ} {to : ℕ} {r : Result B Condition} {a : A} → Stepped m s before from mid at (Ok a) → Stepped n (k a) mid at after to r → Stepped (m + n) (then s k) before from after to r
-  step_on {n} {after} {to} {r} {a} p q =
-      let whole : onward s.list (Ok a) k ≡ then s k = ap (λ o. onward s.list o k) p.result in
-      subst (λ o. Stepped (m + n) o before from after to r) whole (record {
+  pub gives_on : {n : ℕ} {after : List ℕ} {r : Result B Condition} {a : A} → Gives m t before mid (Ok a) → Gives n (k a) mid after r → Gives (m + n) (then t k) before after r
+  gives_on {n} {after} {r} {a} p q =
+      let whole : onward t.trace (Ok a) k ≡ then t k = ap (λ o. onward t.trace o k) p.result in
+      subst (λ o. Gives (m + n) o before after r) whole (record {
         result = q.result;
-        places = q.places ∙ ap₂ (λ l i. written l i (k a).list) p.places p.used ∙ sym (written_append before from s.list (k a).list);
-        used = q.used ∙ simp length-append (omega (arith, p.used));
+        trace = q.trace ∙ ap (λ l. l ++ (k a).trace) p.trace ∙ append_assoc before t.trace (k a).trace;
         few = simp length-append (omega (arith, p.few, q.few));
       })
 
   -- a step that meets a condition ends the whole
-  pub step_out : (n : ℕ) {c : Condition} → Stepped m s before from mid at (Err c) → Stepped (m + n) (then s k) before from mid at (Err c)
-  step_out n {c} p =
-      let whole : onward s.list (Err c) k ≡ then s k = ap (λ o. onward s.list o k) p.result in
-      subst (λ o. Stepped (m + n) o before from mid at (Err c)) whole (record {
+  pub gives_out : (n : ℕ) {c : Condition} → Gives m t before mid (Err c) → Gives (m + n) (then t k) before mid (Err c)
+  gives_out n {c} p =
+      let whole : onward t.trace (Err c) k ≡ then t k = ap (λ o. onward t.trace o k) p.result in
+      subst (λ o. Gives (m + n) o before mid (Err c)) whole (record {
         result = refl;
-        places = p.places;
-        used = p.used;
+        trace = p.trace;
         few = omega (arith, p.few);
       })
 
 -- the same of two walks over one storage
-module _ {A B : Type 0} {limit : ℕ} {word : ℕ → Option ℕ} {m : ℕ} {before : List ℕ} {from : ℕ} {mid : List ℕ} {at : ℕ} {w : Walk A} (k : A → Walk B) where
-  pub walk_on : {n : ℕ} {after : List ℕ} {to : ℕ} {r : Result B Condition} {a : A} → Walked m limit word w before from mid at (Ok a) → Walked n limit word (k a) mid at after to r → Walked (m + n) limit word (w >>= k) before from after to r
-  walk_on {n} {after} {to} {r} p q = record { stepped = subst (λ o. Stepped (m + n) o before from after to r) (sym (over_then limit word w k)) (step_on (λ a. over limit word (k a)) p.stepped q.stepped) }
+module _ {A B : Type 0} {limit : ℕ} {word : ℕ → Option ℕ} {m : ℕ} {before mid : List ℕ} {w : Walk A} (k : A → Walk B) where
+  pub walk_on : {n : ℕ} {after : List ℕ} {r : Result B Condition} {a : A} → Walks m limit word w before mid (Ok a) → Walks n limit word (k a) mid after r → Walks (m + n) limit word (w >>= k) before after r
+  walk_on {n} {after} {r} p q = record { gives = subst (λ o. Gives (m + n) o before after r) (sym (over_then limit word w k)) (gives_on (λ a. over limit word (k a)) p.gives q.gives) }
 
-  pub walk_out : (n : ℕ) {c : Condition} → Walked m limit word w before from mid at (Err c) → Walked (m + n) limit word (w >>= k) before from mid at (Err c)
-  walk_out n {c} p = record { stepped = subst (λ o. Stepped (m + n) o before from mid at (Err c)) (sym (over_then limit word w k)) (step_out (λ a. over limit word (k a)) n p.stepped) }
+  pub walk_out : (n : ℕ) {c : Condition} → Walks m limit word w before mid (Err c) → Walks (m + n) limit word (w >>= k) before mid (Err c)
+  walk_out n {c} p = record { gives = subst (λ o. Gives (m + n) o before mid (Err c)) (sym (over_then limit word w k)) (gives_out (λ a. over limit word (k a)) n p.gives) }
 
 -- what is listed begins with the address read, and goes on with the rest
-module _ {A : Type 0} (word other : ℕ → Option ℕ) (at : ℕ) (next : ℕ → Seen A) where
-  first_agrees : (t : Bool) (o : Option ℕ) → t ≡ true → Agree word other (reading at t o next).list → word at ≡ other at
+module _ {A : Type 0} (word other : ℕ → Option ℕ) (at : ℕ) (next : ℕ → Traced A) where
+  first_agrees : (t : Bool) (o : Option ℕ) → t ≡ true → Agree word other (reading at t o next).trace → word at ≡ other at
   first_agrees false o low agree = absurd (clash low)
   first_agrees true None low agree = agree.0
   first_agrees true (Some v) low agree = agree.0
 
-  rest_agrees : (t : Bool) (o : Option ℕ) (v : ℕ) → t ≡ true → o ≡ Some v → Agree word other (reading at t o next).list → Agree word other (next v).list
+  rest_agrees : (t : Bool) (o : Option ℕ) (v : ℕ) → t ≡ true → o ≡ Some v → Agree word other (reading at t o next).trace → Agree word other (next v).trace
   rest_agrees false o v low here agree = absurd (clash low)
   rest_agrees true None v low here agree = absurd (clash (ap is_some here))
-  rest_agrees true (Some u) v low here agree = subst (λ x. Agree word other (next x).list) (ap (λ x. unwrap_or x 0) here) agree.1
+  rest_agrees true (Some u) v low here agree = subst (λ x. Agree word other (next x).trace) (ap (λ x. unwrap_or x 0) here) agree.1
 
 -- a walk sees no more than it lists
-reading_local : {A : Type 0} (at : ℕ) (t : Bool) (o p : Option ℕ) (one other : ℕ → Seen A) → (t ≡ true → o ≡ p) → ((v : ℕ) → o ≡ Some v → t ≡ true → other v ≡ one v) → reading at t p other ≡ reading at t o one
+reading_local : {A : Type 0} (at : ℕ) (t : Bool) (o p : Option ℕ) (one other : ℕ → Traced A) → (t ≡ true → o ≡ p) → ((v : ℕ) → o ≡ Some v → t ≡ true → other v ≡ one v) → reading at t p other ≡ reading at t o one
 reading_local at false o p one other same rest = refl
 reading_local at true None p one other same rest = ap (λ q. reading at true q other) (sym (same refl))
 reading_local at true (Some v) p one other same rest = ap (λ q. reading at true q other) (sym (same refl)) ∙ ap (asking at) (rest v refl refl)
 
-pub over_local : {A : Type 0} (limit : ℕ) (word : ℕ → Option ℕ) (w : Walk A) → Local limit word w
-over_local limit word (answers a) other agree = refl
-over_local limit word (raises c) other agree = refl
-over_local limit word (reads at next) other agree =
+pub over_local : {A : Type 0} (limit : ℕ) (w : Walk A) → SeesOnlyItsTrace (λ word. over limit word w)
+over_local limit (answers a) word other agree = refl
+over_local limit (raises c) word other agree = refl
+over_local limit (reads at next) word other agree =
     reading_local at (ltb at limit) (word at) (other at) (λ v. over limit word (next v)) (λ v. over limit other (next v))
     (λ low. first_agrees word other at (λ v. over limit word (next v)) (ltb at limit) (word at) low agree)
-    (λ v here low. over_local limit word (next v) other (rest_agrees word other at (λ v. over limit word (next v)) (ltb at limit) (word at) v low here agree))
+    (λ v here low. over_local limit (next v) word other (rest_agrees word other at (λ v. over limit word (next v)) (ltb at limit) (word at) v low here agree))
 
 -- the lengths of lists, of one step after the other and of a read
-pub few_onward : {A B : Type 0} (m n : ℕ) (l : List ℕ) (r : Result A Condition) (k : A → Seen B) → length l ≤ m → ((a : A) → length (k a).list ≤ n) → length (onward l r k).list ≤ m + n
+pub few_onward : {A B : Type 0} (m n : ℕ) (l : List ℕ) (r : Result A Condition) (k : A → Traced B) → length l ≤ m → ((a : A) → length (k a).trace ≤ n) → length (onward l r k).trace ≤ m + n
 few_onward m n l (Ok a) k short rest = let h = rest a in simp length-append (omega arith)
 few_onward m n l (Err c) k short rest = omega arith
 
-few_reading : {A : Type 0} (n at : ℕ) (t : Bool) (o : Option ℕ) (next : ℕ → Seen A) → ((v : ℕ) → length (next v).list ≤ n) → length (reading at t o next).list ≤ 1 + n
+few_reading : {A : Type 0} (n at : ℕ) (t : Bool) (o : Option ℕ) (next : ℕ → Traced A) → ((v : ℕ) → length (next v).trace ≤ n) → length (reading at t o next).trace ≤ 1 + n
 few_reading n at false o next rest = omega arith
 few_reading n at true None next rest = omega arith
 few_reading n at true (Some v) next rest = let h = rest v in omega arith
 
 -- a walk lists at most so many addresses, over any storage
 pub record Few {A : Type 0} (limit : ℕ) (n : ℕ) (w : Walk A) : Type 0 where
-  pub few : (word : ℕ → Option ℕ) → length (over limit word w).list ≤ n
+  pub few : (word : ℕ → Option ℕ) → length (over limit word w).trace ≤ n
 
 module _ {limit : ℕ} where
   pub few_answer : {A : Type 0} {a : A} → Few limit 0 (answers a)
@@ -115,4 +107,4 @@ module _ {limit : ℕ} where
 
   pub few_then : {A B : Type 0} {m n : ℕ} {w : Walk A} {k : A → Walk B} → Few limit m w → ((a : A) → Few limit n (k a)) → Few limit (m + n) (w >>= k)
   few_then {A} {B} {m} {n} {w} {k} first rest =
-      record { few = λ word. subst (λ s. length s.list ≤ m + n) (sym (over_then limit word w k)) (few_onward m n (over limit word w).list (over limit word w).result (λ a. over limit word (k a)) (first.few word) (λ a. (rest a).few word)) }
+      record { few = λ word. subst (λ s. length s.trace ≤ m + n) (sym (over_then limit word w k)) (few_onward m n (over limit word w).trace (over limit word w).result (λ a. over limit word (k a)) (first.few word) (λ a. (rest a).few word)) }

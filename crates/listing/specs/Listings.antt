@@ -1,6 +1,6 @@
 -- What the listing of a run text is.
 use Rattle.std.specs.Prelude.{◌≡◌, ℕ, ◌+◌, ◌⊎◌, List, map, length, Option}
-use Rattle.arch.specs.Walks.{Seen}
+use Rattle.arch.specs.Walks.{Traced}
 use Rattle.lines.specs.Refusals.{refusal_line}
 use Rattle.lookup.specs.declared.access.AccessKey.{AccessKey}
 use Rattle.lookup.specs.declared.access.AccessAnswer.{AccessAnswer}
@@ -30,8 +30,8 @@ abbrev pub first_call : Run → ℕ
 first_call q = length q.words + length q.keys + 2
 
 -- over two sources of any make, by what they show and by what an ask or a purge does to them
-module _ {A P : Type 0} (arts_show : A → AccessKey → Option AccessAnswer) (arts_move : A → (AccessKey → Seen AccessAnswer) → AccessKey → A → Type 0) (arts_clear : A → A → Type 0)
-    (pages_show : P → PageKey → Option PageAnswer) (pages_move : P → (PageKey → Seen PageAnswer) → PageKey → P → Type 0) (pages_clear : P → P → Type 0) where
+module _ {A P : Type 0} (arts_show : A → AccessKey → Option AccessAnswer) (arts_move : A → (AccessKey → Traced AccessAnswer) → AccessKey → A → Type 0) (arts_clear : A → A → Type 0)
+    (pages_show : P → PageKey → Option PageAnswer) (pages_move : P → (PageKey → Traced PageAnswer) → PageKey → P → Type 0) (pages_clear : P → P → Type 0) where
   -- A RECORD OF A RUN. There is an outcome for each call, and the law of every run holds of them, over the storage that
   -- the run's own records make up; the sources go from these states to those.
   pub record Recorded (q : Run) (os : List Outcome) (a : A) (p : P) (a' : A) (p' : P) : Type 0 where

@@ -10,7 +10,7 @@ use Rattle.lookup.specs.declared.page.PageKey.{PageKey}
 use Rattle.lookup.specs.declared.page.Table.{Table}
 use Rattle.lookup.specs.Access.{access_limit, locate, entry_first, entry, aste_first, aste_sequence, aste, secondary, authorized, access_walk, authority_length, authority_bit}
 use Rattle.lookup.specs.Pages.{page_limit, left_of_index, table_below, table_of, table_entry, page_entry, descend, first_level, through_tables, page_walk}
-use Rattle.lookup.specs.Orders.{locate_rows, entry_rows, aste_rows, authority_rows, entry_address, entry_one, entry_two, aste_one, authority_address, needs_authority, access_rows, access_found, entry_in, table_rows, page_rows, page_found, descent_rows, descent_found, paging_rows, paging_found}
+use Rattle.lookup.specs.Orders.{locate_rows, entry_rows, aste_rows, authority_rows, entry_address, entry_one, entry_two, aste_one, authority_address, needs_authority, access_conditions, access_finds, entry_in, table_rows, page_rows, page_found, descent_rows, descent_found, page_conditions, page_finds}
 
 module _ (word : ℕ → Option ℕ) (k : AccessKey) where
   locate_ordered : InOrder access_limit word (locate k) (locate_rows word k) (entry_address word k)
@@ -41,22 +41,22 @@ module _ (word : ℕ → Option ℕ) (k : AccessKey) where
       by true = secondary_ordered
       by false = record { ordered = refl }
 
-  pub access_ordered : InOrder access_limit word (access_walk k) (access_rows word k) (access_found word k)
+  pub access_ordered : InOrder access_limit word (access_walk k) (access_conditions word k) (access_finds word k)
   access_ordered = part_first _ locate_ordered (part_first _ entry_ordered (part_first _ aste_ordered (part_first _ authority_ordered (read_first answered))))
 
 module _ (word : ℕ → Option ℕ) where
   table_ordered : (level : ℕ) (t : Table) (page : ℕ) → InOrder page_limit word (table_entry level t page) (table_rows word level t page) (entry_in word level t page)
   table_ordered level t page = check_first (read_first (check_first (check_first answered)))
 
-  page_ordered : (segment page : ℕ) → InOrder page_limit word (page_entry segment page) (page_rows word segment page) (page_found word segment page)
-  page_ordered segment page = read_first (check_first (check_first answered))
+  page_entry_ordered : (segment page : ℕ) → InOrder page_limit word (page_entry segment page) (page_rows word segment page) (page_found word segment page)
+  page_entry_ordered segment page = read_first (check_first (check_first answered))
 
   descent_ordered : (level : ℕ) (t : Table) (private : Bool) (page : ℕ) → InOrder page_limit word (descend level t private page) (descent_rows word level t private page) (descent_found word level t page)
-  descent_ordered zero t private page = part_first _ (table_ordered 0 t page) (check_first (page_ordered (entry_in word 0 t page) page))
+  descent_ordered zero t private page = part_first _ (table_ordered 0 t page) (check_first (page_entry_ordered (entry_in word 0 t page) page))
   descent_ordered (suc level) t private page = part_first _ (table_ordered (suc level) t page) (descent_ordered level (table_below (entry_in word (suc level) t page)) private page)
 
-  pub paging_ordered : (k : PageKey) → InOrder page_limit word (page_walk k) (paging_rows word k) (paging_found word k)
-  paging_ordered k = by (bit 58 k.asce)
+  pub page_ordered : (k : PageKey) → InOrder page_limit word (page_walk k) (page_conditions word k) (page_finds word k)
+  page_ordered k = by (bit 58 k.asce)
     where
       by : (t : Bool) → InOrder page_limit word (cond t (answers (record { frame = k.page; protect = false })) (through_tables k.asce k.page)) (cond t [] (row AsceType (not (eqb (left_of_index (first_level k.asce) k.page) 0)) ∷ descent_rows word (first_level k.asce) (table_of k.asce) (bit 55 k.asce) k.page)) (cond t (record { frame = k.page; protect = false }) (descent_found word (first_level k.asce) (table_of k.asce) k.page))
       by true = answered

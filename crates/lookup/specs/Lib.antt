@@ -1,5 +1,6 @@
 pub mod Access
 pub mod Checks
+pub mod Laws
 pub mod Lookups
 pub mod Orders
 pub mod Pages

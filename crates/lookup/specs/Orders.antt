@@ -69,11 +69,11 @@ module _ (word : ℕ → Option ℕ) (k : AccessKey) where
       ∷ []
 
   -- and the element
-  abbrev pub access_rows : List Row
-  access_rows = locate_rows ++ (entry_rows ++ (aste_rows ++ (authority_rows ++ (row Addressing (missing access_limit word (aste_origin entry_two + 8)) ∷ []))))
+  abbrev pub access_conditions : List Row
+  access_conditions = locate_rows ++ (entry_rows ++ (aste_rows ++ (authority_rows ++ (row Addressing (missing access_limit word (aste_origin entry_two + 8)) ∷ []))))
 
-  abbrev pub access_found : AccessAnswer
-  access_found = record { asce = value word (aste_origin entry_two + 8); fetch_only = bit 6 entry_one }
+  abbrev pub access_finds : AccessAnswer
+  access_finds = record { asce = value word (aste_origin entry_two + 8); fetch_only = bit 6 entry_one }
 
 module _ (word : ℕ → Option ℕ) where
   -- the entry of a table that a page number leads to
@@ -112,8 +112,8 @@ module _ (word : ℕ → Option ℕ) where
   descent_found (suc level) t page = descent_found level (table_below (entry_in (suc level) t page)) page
 
   -- a real space meets no condition
-  abbrev pub paging_rows : PageKey → List Row
-  paging_rows k = cond (bit 58 k.asce) [] (row AsceType (not (left_of_index (first_level k.asce) k.page == 0)) ∷ descent_rows (first_level k.asce) (table_of k.asce) (bit 55 k.asce) k.page)
+  abbrev pub page_conditions : PageKey → List Row
+  page_conditions k = cond (bit 58 k.asce) [] (row AsceType (not (left_of_index (first_level k.asce) k.page == 0)) ∷ descent_rows (first_level k.asce) (table_of k.asce) (bit 55 k.asce) k.page)
 
-  abbrev pub paging_found : PageKey → PageAnswer
-  paging_found k = cond (bit 58 k.asce) (record { frame = k.page; protect = false }) (descent_found (first_level k.asce) (table_of k.asce) k.page)
+  abbrev pub page_finds : PageKey → PageAnswer
+  page_finds k = cond (bit 58 k.asce) (record { frame = k.page; protect = false }) (descent_found (first_level k.asce) (table_of k.asce) k.page)

@@ -2,10 +2,10 @@
 use Rattle.std.specs.Prelude.{◌≡◌, ◌⊎◌, is_some, Some, None, Ok, Option, ◌≢◌}
 use Rattle.std.proofs.Common.{ap}
 use borrow.Author.Tests.{clash}
-use Rattle.arch.specs.Walks.{Seen, given}
+use Rattle.arch.specs.Walks.{Traced, given}
 
 -- the shown answer, with no address asked for; where none is shown, what comes of the walk
-abbrev pub asked : {A : Type 0} → Option A → Seen A → Seen A
+abbrev pub asked : {A : Type 0} → Option A → Traced A → Traced A
 asked None fresh = fresh
 asked (Some a) fresh = given a
 
@@ -13,7 +13,7 @@ pub none_is_not_some : {A : Type 0} {a : A} → None ≢ Some a
 none_is_not_some e = clash (ap is_some e)
 
 -- every pair held after was held before, or is its key's fresh answer
-abbrev pub Kept : {Key Answer : Type 0} → (Key → Type 0) → (Key → Seen Answer) → (Key → Answer → Type 0) → (Key → Answer → Type 0) → Type 0
+abbrev pub Kept : {Key Answer : Type 0} → (Key → Type 0) → (Key → Traced Answer) → (Key → Answer → Type 0) → (Key → Answer → Type 0) → Type 0
 Kept {Key} {Answer} fits fresh before after = (k : Key) (a : Answer) → fits k → after k a → before k a ⊎ ((fresh k).result ≡ Ok a)
 
 -- no pair is held

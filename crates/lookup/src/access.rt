@@ -1,10 +1,11 @@
 // The access-register lookup.
 ghost use Rattle.std.specs.Prelude.{◌+◌, ◌^◌, ◌<◌, ◌≤◌, length, IfOk};
-ghost use Rattle.arch.specs.Walks.{Walked};
+ghost use Rattle.arch.specs.Walks.{Walks};
 ghost use Rattle.lookup.specs.Access.{access_limit, locate as locating, entry_first, entry as entering, aste_first, aste_sequence, aste as second_table, secondary as has_secondary, authorized as authorizing, access_walk};
 
 use crate::step::{check, read};
 use arch::bits::{field, flag};
+use crate::trace::Trace;
 use arch::condition::Condition;
 use storage::storage::Storage;
 
@@ -38,17 +39,16 @@ struct AccessEntry {
 fn locate<S: Storage>(
     storage: &S,
     key: AccessKey,
-    list: &mut [u64],
-    used: &mut usize,
+    trace: &mut Trace,
 ) -> Result<u128, Condition>
-    requires { used.old + 1 ≤ length list.old }
-    ensures walked { Walked 1 access_limit (S.Storage.view storage.now).word (locating key) list.old used.old list.new used.new result }
+    requires { length trace.old.items + 1 ≤ 12 }
+    ensures walked { Walks 1 access_limit (S.view storage.now).word (locating key) trace.old.items trace.new.items result }
     ensures small { IfOk result (λ at. at < 2 ^ 64) }
 {
     let alet = u64::from(key.alet);
     let number = field(alet, 48, 63);
     check(Condition::AletSpecification, field(alet, 32, 38) != 0)?;
-    let designation = read(storage, u128::from(key.designation), LIMIT, list, used)?;
+    let designation = read(storage, u128::from(key.designation), LIMIT, trace)?;
     check(
         Condition::AlenTranslation,
         number / 8 > field(designation, 25, 31),
@@ -61,13 +61,12 @@ fn entry_first<S: Storage>(
     storage: &S,
     key: AccessKey,
     at: u128,
-    list: &mut [u64],
-    used: &mut usize,
+    trace: &mut Trace,
 ) -> Result<u64, Condition>
-    requires { used.old + 1 ≤ length list.old }
-    ensures { Walked 1 access_limit (S.Storage.view storage.now).word (entry_first key at) list.old used.old list.new used.new result }
+    requires { length trace.old.items + 1 ≤ 12 }
+    ensures { Walks 1 access_limit (S.view storage.now).word (entry_first key at) trace.old.items trace.new.items result }
 {
-    let first = read(storage, at, LIMIT, list, used)?;
+    let first = read(storage, at, LIMIT, trace)?;
     check(Condition::AlenTranslation, flag(first, 0))?;
     check(
         Condition::AleSequence,
@@ -81,15 +80,14 @@ fn entry<S: Storage>(
     storage: &S,
     key: AccessKey,
     at: u128,
-    list: &mut [u64],
-    used: &mut usize,
+    trace: &mut Trace,
 ) -> Result<AccessEntry, Condition>
     requires small { at < 2 ^ 64 }
-    requires room { used.old + 2 ≤ length list.old }
-    ensures { Walked 2 access_limit (S.Storage.view storage.now).word (entering key at) list.old used.old list.new used.new result }
+    requires room { length trace.old.items + 2 ≤ 12 }
+    ensures { Walks 2 access_limit (S.view storage.now).word (entering key at) trace.old.items trace.new.items result }
 {
-    let first = entry_first(storage, key, at, list, used)?;
-    let second = read(storage, at + 8, LIMIT, list, used)?;
+    let first = entry_first(storage, key, at, trace)?;
+    let second = read(storage, at + 8, LIMIT, trace)?;
     Ok(AccessEntry { first, second })
 }
 
@@ -97,19 +95,15 @@ fn entry<S: Storage>(
 fn aste_first<S: Storage>(
     storage: &S,
     second: u64,
-    list: &mut [u64],
-    used: &mut usize,
+    trace: &mut Trace,
 ) -> Result<u64, Condition>
-    requires { used.old + 1 ≤ length list.old }
-    ensures { Walked 1 access_limit (S.Storage.view storage.now).word (aste_first second) list.old used.old list.new used.new result }
+    requires { length trace.old.items + 1 ≤ 12 }
+    ensures { Walks 1 access_limit (S.view storage.now).word (aste_first second) trace.old.items trace.new.items result }
 {
     let first = read(
         storage,
         u128::from(field(second, 1, 25) * 64),
-        LIMIT,
-        list,
-        used,
-    )?;
+        LIMIT, trace)?;
     check(Condition::AsteValidity, flag(first, 0))?;
     Ok(first)
 }
@@ -118,19 +112,15 @@ fn aste_first<S: Storage>(
 fn aste_sequence<S: Storage>(
     storage: &S,
     second: u64,
-    list: &mut [u64],
-    used: &mut usize,
+    trace: &mut Trace,
 ) -> Result<(), Condition>
-    requires { used.old + 1 ≤ length list.old }
-    ensures { Walked 1 access_limit (S.Storage.view storage.now).word (aste_sequence second) list.old used.old list.new used.new result }
+    requires { length trace.old.items + 1 ≤ 12 }
+    ensures { Walks 1 access_limit (S.view storage.now).word (aste_sequence second) trace.old.items trace.new.items result }
 {
     let third = read(
         storage,
         u128::from(field(second, 1, 25) * 64 + 16),
-        LIMIT,
-        list,
-        used,
-    )?;
+        LIMIT, trace)?;
     check(
         Condition::AsteSequence,
         field(second, 32, 63) != field(third, 32, 63),
@@ -140,14 +130,13 @@ fn aste_sequence<S: Storage>(
 fn aste<S: Storage>(
     storage: &S,
     second: u64,
-    list: &mut [u64],
-    used: &mut usize,
+    trace: &mut Trace,
 ) -> Result<u64, Condition>
-    requires { used.old + 2 ≤ length list.old }
-    ensures { Walked 2 access_limit (S.Storage.view storage.now).word (second_table second) list.old used.old list.new used.new result }
+    requires { length trace.old.items + 2 ≤ 12 }
+    ensures { Walks 2 access_limit (S.view storage.now).word (second_table second) trace.old.items trace.new.items result }
 {
-    let first = aste_first(storage, second, list, used)?;
-    aste_sequence(storage, second, list, used)?;
+    let first = aste_first(storage, second, trace)?;
+    aste_sequence(storage, second, trace)?;
     Ok(first)
 }
 
@@ -156,11 +145,10 @@ fn secondary<S: Storage>(
     storage: &S,
     eax: u16,
     aste: u64,
-    list: &mut [u64],
-    used: &mut usize,
+    trace: &mut Trace,
 ) -> Result<(), Condition>
-    requires { used.old + 1 ≤ length list.old }
-    ensures { Walked 1 access_limit (S.Storage.view storage.now).word (has_secondary eax aste) list.old used.old list.new used.new result }
+    requires { length trace.old.items + 1 ≤ 12 }
+    ensures { Walks 1 access_limit (S.view storage.now).word (has_secondary eax aste) trace.old.items trace.new.items result }
 {
     let index = u64::from(eax);
     check(
@@ -168,7 +156,7 @@ fn secondary<S: Storage>(
         index / 16 > field(aste, 48, 59),
     )?;
     let byte = field(aste, 1, 29) * 4 + index / 4;
-    let authority = read(storage, u128::from(byte / 8 * 8), LIMIT, list, used)?;
+    let authority = read(storage, u128::from(byte / 8 * 8), LIMIT, trace)?;
     let bit = byte % 8 * 8 + (2 * (index % 4) + 1);
     check(Condition::ExtendedAuthority, !flag(authority, bit as u8))
 }
@@ -179,14 +167,13 @@ fn authorized<S: Storage>(
     key: AccessKey,
     first: u64,
     aste: u64,
-    list: &mut [u64],
-    used: &mut usize,
+    trace: &mut Trace,
 ) -> Result<(), Condition>
-    requires { used.old + 1 ≤ length list.old }
-    ensures { Walked 1 access_limit (S.Storage.view storage.now).word (authorizing key first aste) list.old used.old list.new used.new result }
+    requires { length trace.old.items + 1 ≤ 12 }
+    ensures { Walks 1 access_limit (S.view storage.now).word (authorizing key first aste) trace.old.items trace.new.items result }
 {
     if flag(first, 7) && field(first, 16, 31) != u64::from(key.eax) {
-        return secondary(storage, key.eax, aste, list, used);
+        return secondary(storage, key.eax, aste, trace);
     }
     Ok(())
 }
@@ -195,23 +182,19 @@ fn authorized<S: Storage>(
 pub(crate) fn walk<S: Storage>(
     storage: &S,
     key: AccessKey,
-    list: &mut [u64],
-    used: &mut usize,
+    trace: &mut Trace,
 ) -> Result<AccessAnswer, Condition>
-    requires { used.old + 7 ≤ length list.old }
-    ensures { Walked 7 access_limit (S.Storage.view storage.now).word (access_walk key) list.old used.old list.new used.new result }
+    requires { length trace.old.items + 7 ≤ 12 }
+    ensures { Walks 7 access_limit (S.view storage.now).word (access_walk key) trace.old.items trace.new.items result }
 {
-    let at = locate(storage, key, list, used)?;
-    let found = entry(storage, key, at, list, used)?;
-    let first = aste(storage, found.second, list, used)?;
-    authorized(storage, key, found.first, first, list, used)?;
+    let at = locate(storage, key, trace)?;
+    let found = entry(storage, key, at, trace)?;
+    let first = aste(storage, found.second, trace)?;
+    authorized(storage, key, found.first, first, trace)?;
     let asce = read(
         storage,
         u128::from(field(found.second, 1, 25) * 64 + 8),
-        LIMIT,
-        list,
-        used,
-    )?;
+        LIMIT, trace)?;
     Ok(AccessAnswer {
         asce,
         fetch_only: flag(found.first, 6),

@@ -1,9 +1,10 @@
 // A kind of lookup: what it asks for and what it finds, how both are spelt in two words, and its walk.
 ghost use Rattle.std.specs.Prelude.{◌≡◌, ℕ, ◌+◌, ◌≤◌, List, length, Option};
 ghost use Rattle.arch.specs.Order.{Row, Ordered};
-ghost use Rattle.arch.specs.Walks.{Walk, Walked, Local};
+ghost use Rattle.arch.specs.Walks.{Traced, Gives, SeesOnlyItsTrace};
 ghost use Rattle.lookup.specs.declared.words.Words.{Words};
 
+use crate::trace::Trace;
 use crate::words::Words;
 use arch::condition::Condition;
 use storage::storage::Storage;
@@ -13,56 +14,53 @@ pub trait Kind {
 
     type Answer: Copy;
 
-    // The lookup as a tree of reads.
-    ghost tree: { Self.Key → Walk Self.Answer };
+    // What its walk over the doublewords of a storage comes to, and the addresses that it asks for.
+    ghost fresh: { (ℕ → Option ℕ) → Self.Key → Traced Self.Answer };
 
-    // Its conditions as a table, and what it finds where none applies, over the doublewords of a storage.
-    ghost rows: { (ℕ → Option ℕ) → Self.Key → List Row };
+    // Its conditions as a table, and what it finds where none applies.
+    ghost conditions: { (ℕ → Option ℕ) → Self.Key → List Row };
 
-    ghost found: { (ℕ → Option ℕ) → Self.Key → Self.Answer };
-
-    // Its addresses stay below this one.
-    ghost limit: { ℕ };
+    ghost finds: { (ℕ → Option ℕ) → Self.Key → Self.Answer };
 
     // It reads at most so many doublewords.
-    ghost most: { ℕ };
+    ghost most_reads: { ℕ };
 
     // A key whose numbers have the widths that they are spelt with. Every key that code can hold is one.
     ghost fits: { Self.Key → Type 0 };
 
-    ghost spelt: { Self.Key → Words };
+    ghost key_words: { Self.Key → Words };
 
-    ghost written: { Self.Answer → Words };
+    ghost answer_words: { Self.Answer → Words };
 
-    ghost meant: { Words → Self.Answer };
+    ghost answer_of: { Words → Self.Answer };
 
-    // Walks the tables, noting each address asked for in the places from `used` on. It comes to what it
-    // finds exactly where no condition of its table applies, else to the first that does; and it sees no
-    // more of the storage than it lists.
+    // Walks the tables, noting each address asked for at the end of the trace. It comes to what it finds exactly
+    // where no condition of its table applies, else to the first that does.
     fn walk<S: Storage>(
         storage: &S,
         key: Self::Key,
-        list: &mut [u64],
-        used: &mut usize,
+        trace: &mut Trace,
     ) -> Result<Self::Answer, Condition>
-        requires { used.old + most ≤ length list.old }
-        ensures walked { Walked most limit (S.Storage.view storage.now).word (tree key) list.old used.old list.new used.new result }
-        ensures order { Ordered (rows (S.Storage.view storage.now).word key) (found (S.Storage.view storage.now).word key) result }
-        ensures sees { Local limit (S.Storage.view storage.now).word (tree key) };
+        requires { length trace.old.items + most_reads ≤ 12 }
+        ensures gives { Gives most_reads (fresh (S.view storage.now).word key) trace.old.items trace.new.items result }
+        ensures order { Ordered (conditions (S.view storage.now).word key) (finds (S.view storage.now).word key) result };
 
     fn spell(key: Self::Key) -> Words
-        ensures words { result ≡ spelt key }
+        ensures words { result ≡ key_words key }
         ensures fits { fits key };
 
     fn write(answer: Self::Answer) -> Words
-        ensures { result ≡ written answer };
+        ensures { result ≡ answer_words answer };
 
-    fn mean(words: Words) -> Self::Answer
-        ensures { result ≡ meant words };
+    fn read(words: Words) -> Self::Answer
+        ensures { result ≡ answer_of words };
+
+    // It sees no more of a storage than it lists.
+    ghost sees_only_its_trace: { (key : Self.Key) → SeesOnlyItsTrace (λ word. fresh word key) };
 
     // Keys have equal words exactly when they are equal.
-    ghost distinct: { (k j : Self.Key) → fits k → fits j → (spelt k ≡ spelt j → k ≡ j) × (k ≡ j → spelt k ≡ spelt j) };
+    ghost distinct: { (k j : Self.Key) → fits k → fits j → (key_words k ≡ key_words j → k ≡ j) × (k ≡ j → key_words k ≡ key_words j) };
 
     // The words of an answer give it back.
-    ghost back: { (a : Self.Answer) → meant (written a) ≡ a };
+    ghost answer_back: { (a : Self.Answer) → answer_of (answer_words a) ≡ a };
 }

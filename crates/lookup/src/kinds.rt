@@ -1,8 +1,9 @@
 // The two kinds of lookup.
-ghost use Rattle.lookup.specs.Access.{access_limit, access_walk, AccessFits};
-ghost use Rattle.lookup.specs.Orders.{access_rows, access_found, paging_rows, paging_found};
-ghost use Rattle.lookup.specs.Pages.{page_limit, page_walk};
-ghost use Rattle.lookup.specs.Spelling.{access_spelt, access_written, access_meant, page_spelt, page_written, page_meant, PageFits};
+ghost use Rattle.lookup.specs.Access.{AccessFits};
+ghost use Rattle.lookup.specs.Orders.{access_conditions, access_finds, page_conditions, page_finds};
+ghost use Rattle.lookup.specs.Laws.{access_sees_only_its_trace, page_sees_only_its_trace};
+ghost use Rattle.lookup.specs.Lookups.{access_fresh, page_fresh};
+ghost use Rattle.lookup.specs.Spelling.{access_key_words, access_answer_words, access_answer_of, page_key_words, page_answer_words, page_answer_of, PageFits};
 ghost use Rattle.std.proofs.Common.{rules};
 
 use crate::access::{AccessAnswer, AccessKey};
@@ -10,6 +11,7 @@ use crate::kind::Kind;
 use crate::page::{PageAnswer, PageKey};
 use crate::words::Words;
 use crate::{access, page};
+use crate::trace::Trace;
 use arch::condition::Condition;
 use storage::storage::Storage;
 
@@ -21,35 +23,34 @@ impl Kind for AccessRegister {
 
     type Answer = AccessAnswer;
 
-    ghost tree = { access_walk };
+    ghost fresh = { access_fresh };
 
-    ghost rows = { access_rows };
+    ghost conditions = { access_conditions };
 
-    ghost found = { access_found };
+    ghost finds = { access_finds };
 
-    ghost limit = { access_limit };
-
-    ghost most = { 7 };
+    ghost most_reads = { 7 };
 
     ghost fits = { AccessFits };
 
-    ghost spelt = { access_spelt };
+    ghost key_words = { access_key_words };
 
-    ghost written = { access_written };
+    ghost answer_words = { access_answer_words };
 
-    ghost meant = { access_meant };
+    ghost answer_of = { access_answer_of };
+
+    ghost sees_only_its_trace = { access_sees_only_its_trace };
 
     ghost distinct = { Prim.search rules };
 
-    ghost back = { Prim.search rules };
+    ghost answer_back = { Prim.search rules };
 
     fn walk<S: Storage>(
         storage: &S,
         key: AccessKey,
-        list: &mut [u64],
-        used: &mut usize,
+        trace: &mut Trace,
     ) -> Result<AccessAnswer, Condition> {
-        access::walk(storage, key, list, used)
+        access::walk(storage, key, trace)
     }
 
     fn spell(key: AccessKey) -> Words {
@@ -66,7 +67,7 @@ impl Kind for AccessRegister {
         }
     }
 
-    fn mean(words: Words) -> AccessAnswer {
+    fn read(words: Words) -> AccessAnswer {
         AccessAnswer {
             asce: words.first,
             fetch_only: words.second == 1,
@@ -82,35 +83,34 @@ impl Kind for Paging {
 
     type Answer = PageAnswer;
 
-    ghost tree = { page_walk };
+    ghost fresh = { page_fresh };
 
-    ghost rows = { paging_rows };
+    ghost conditions = { page_conditions };
 
-    ghost found = { paging_found };
+    ghost finds = { page_finds };
 
-    ghost limit = { page_limit };
-
-    ghost most = { 5 };
+    ghost most_reads = { 5 };
 
     ghost fits = { PageFits };
 
-    ghost spelt = { page_spelt };
+    ghost key_words = { page_key_words };
 
-    ghost written = { page_written };
+    ghost answer_words = { page_answer_words };
 
-    ghost meant = { page_meant };
+    ghost answer_of = { page_answer_of };
+
+    ghost sees_only_its_trace = { page_sees_only_its_trace };
 
     ghost distinct = { Prim.search rules };
 
-    ghost back = { Prim.search rules };
+    ghost answer_back = { Prim.search rules };
 
     fn walk<S: Storage>(
         storage: &S,
         key: PageKey,
-        list: &mut [u64],
-        used: &mut usize,
+        trace: &mut Trace,
     ) -> Result<PageAnswer, Condition> {
-        page::walk(storage, key, list, used)
+        page::walk(storage, key, trace)
     }
 
     fn spell(key: PageKey) -> Words {
@@ -127,7 +127,7 @@ impl Kind for Paging {
         }
     }
 
-    fn mean(words: Words) -> PageAnswer {
+    fn read(words: Words) -> PageAnswer {
         PageAnswer {
             frame: words.first,
             protect: words.second == 1,

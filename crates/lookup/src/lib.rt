@@ -8,5 +8,6 @@ pub mod kinds;
 pub mod page;
 pub mod source;
 pub mod step;
+pub mod trace;
 pub mod words;
 pub mod worked;

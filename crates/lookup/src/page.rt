@@ -1,10 +1,11 @@
 // The page lookup.
 ghost use Rattle.std.specs.Prelude.{◌≡◌, ◌+◌, ◌*◌, ◌<◌, ◌≤◌, length};
-ghost use Rattle.arch.specs.Walks.{Walked};
+ghost use Rattle.arch.specs.Walks.{Walks};
 ghost use Rattle.lookup.specs.Pages.{page_limit, level_condition, index as table_index, outside, table_below, table_of, valid_entry, table_entry as entry_of, page_entry as final_entry, descend as descending, through_tables as by_tables, page_walk};
 
 use crate::step::{check, read};
 use arch::bits::{field, flag};
+use crate::trace::Trace;
 use arch::condition::Condition;
 use storage::storage::Storage;
 
@@ -91,13 +92,12 @@ fn valid_entry<S: Storage>(
     storage: &S,
     level: u8,
     at: u128,
-    list: &mut [u64],
-    used: &mut usize,
+    trace: &mut Trace,
 ) -> Result<u64, Condition>
-    requires { used.old + 1 ≤ length list.old }
-    ensures { Walked 1 page_limit (S.Storage.view storage.now).word (valid_entry level at) list.old used.old list.new used.new result }
+    requires { length trace.old.items + 1 ≤ 12 }
+    ensures { Walks 1 page_limit (S.view storage.now).word (valid_entry level at) trace.old.items trace.new.items result }
 {
-    let entry = read(storage, at, LIMIT, list, used)?;
+    let entry = read(storage, at, LIMIT, trace)?;
     check(condition_of(level), flag(entry, 58))?;
     check(
         Condition::TranslationSpecification,
@@ -112,22 +112,18 @@ fn table_entry<S: Storage>(
     level: u8,
     table: Table,
     page: u64,
-    list: &mut [u64],
-    used: &mut usize,
+    trace: &mut Trace,
 ) -> Result<u64, Condition>
     requires level { level < 4 }
-    requires room { used.old + 1 ≤ length list.old }
-    ensures { Walked 1 page_limit (S.Storage.view storage.now).word (entry_of level table page) list.old used.old list.new used.new result }
+    requires room { length trace.old.items + 1 ≤ 12 }
+    ensures { Walks 1 page_limit (S.view storage.now).word (entry_of level table page) trace.old.items trace.new.items result }
 {
     let index = index(level, page);
     check(condition_of(level), table.lacks(index))?;
     valid_entry(
         storage,
         level,
-        u128::from(table.origin) + 8 * u128::from(index),
-        list,
-        used,
-    )
+        u128::from(table.origin) + 8 * u128::from(index), trace)
 }
 
 // The page entry under a segment entry.
@@ -135,20 +131,16 @@ fn page_entry<S: Storage>(
     storage: &S,
     segment: u64,
     page: u64,
-    list: &mut [u64],
-    used: &mut usize,
+    trace: &mut Trace,
 ) -> Result<PageAnswer, Condition>
-    requires { used.old + 1 ≤ length list.old }
-    ensures { Walked 1 page_limit (S.Storage.view storage.now).word (final_entry segment page) list.old used.old list.new used.new result }
+    requires { length trace.old.items + 1 ≤ 12 }
+    ensures { Walks 1 page_limit (S.view storage.now).word (final_entry segment page) trace.old.items trace.new.items result }
 {
     let origin = u128::from(field(segment, 0, 52)) * 2048;
     let entry = read(
         storage,
         origin + u128::from(8 * (page % 256)),
-        LIMIT,
-        list,
-        used,
-    )?;
+        LIMIT, trace)?;
     check(Condition::PageTranslation, flag(entry, 53))?;
     check(
         Condition::TranslationSpecification,
@@ -166,18 +158,17 @@ fn segment<S: Storage>(
     table: Table,
     private: bool,
     page: u64,
-    list: &mut [u64],
-    used: &mut usize,
+    trace: &mut Trace,
 ) -> Result<PageAnswer, Condition>
-    requires { used.old + 2 ≤ length list.old }
-    ensures { Walked 2 page_limit (S.Storage.view storage.now).word (descending 0 table private page) list.old used.old list.new used.new result }
+    requires { length trace.old.items + 2 ≤ 12 }
+    ensures { Walks 2 page_limit (S.view storage.now).word (descending 0 table private page) trace.old.items trace.new.items result }
 {
-    let entry = table_entry(storage, 0, table, page, list, used)?;
+    let entry = table_entry(storage, 0, table, page, trace)?;
     check(
         Condition::TranslationSpecification,
         flag(entry, 59) & private,
     )?;
-    page_entry(storage, entry, page, list, used)
+    page_entry(storage, entry, page, trace)
 }
 
 // From a table of some level down to the page.
@@ -187,26 +178,22 @@ fn descend<S: Storage>(
     table: Table,
     private: bool,
     page: u64,
-    list: &mut [u64],
-    used: &mut usize,
+    trace: &mut Trace,
 ) -> Result<PageAnswer, Condition>
     requires level { level < 4 }
-    requires room { used.old + (level + 2) ≤ length list.old }
-    ensures { Walked (level + 2) page_limit (S.Storage.view storage.now).word (descending level table private page) list.old used.old list.new used.new result }
+    requires room { length trace.old.items + (level + 2) ≤ 12 }
+    ensures { Walks (level + 2) page_limit (S.view storage.now).word (descending level table private page) trace.old.items trace.new.items result }
 {
     if level == 0 {
-        return segment(storage, table, private, page, list, used);
+        return segment(storage, table, private, page, trace);
     }
-    let entry = table_entry(storage, level, table, page, list, used)?;
+    let entry = table_entry(storage, level, table, page, trace)?;
     descend(
         storage,
         level - 1,
         Table::below(entry),
         private,
-        page,
-        list,
-        used,
-    )
+        page, trace)
 }
 
 // Through the tables that an element designates.
@@ -214,11 +201,10 @@ fn through_tables<S: Storage>(
     storage: &S,
     asce: u64,
     page: u64,
-    list: &mut [u64],
-    used: &mut usize,
+    trace: &mut Trace,
 ) -> Result<PageAnswer, Condition>
-    requires { used.old + 5 ≤ length list.old }
-    ensures { Walked 5 page_limit (S.Storage.view storage.now).word (by_tables asce page) list.old used.old list.new used.new result }
+    requires { length trace.old.items + 5 ≤ 12 }
+    ensures { Walks 5 page_limit (S.view storage.now).word (by_tables asce page) trace.old.items trace.new.items result }
 {
     let level = field(asce, 60, 61) as u8;
     check(Condition::AsceType, (page >> (8 + 11 * level)) / 2048 != 0)?;
@@ -227,21 +213,17 @@ fn through_tables<S: Storage>(
         level,
         Table::of(asce),
         flag(asce, 55),
-        page,
-        list,
-        used,
-    )
+        page, trace)
 }
 
 // The whole lookup, walked afresh. In a real space the frame is the page, unprotected.
 pub(crate) fn walk<S: Storage>(
     storage: &S,
     key: PageKey,
-    list: &mut [u64],
-    used: &mut usize,
+    trace: &mut Trace,
 ) -> Result<PageAnswer, Condition>
-    requires { used.old + 5 ≤ length list.old }
-    ensures { Walked 5 page_limit (S.Storage.view storage.now).word (page_walk key) list.old used.old list.new used.new result }
+    requires { length trace.old.items + 5 ≤ 12 }
+    ensures { Walks 5 page_limit (S.view storage.now).word (page_walk key) trace.old.items trace.new.items result }
 {
     if flag(key.asce, 58) {
         return Ok(PageAnswer {
@@ -249,5 +231,5 @@ pub(crate) fn walk<S: Storage>(
             protect: false,
         });
     }
-    through_tables(storage, key.asce, key.page, list, used)
+    through_tables(storage, key.asce, key.page, trace)
 }

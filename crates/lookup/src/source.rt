@@ -1,9 +1,10 @@
 // A source of answers for one kind of lookup: the walk itself, or a lookaside over another source.
 ghost use Rattle.std.specs.Prelude.{◌≡◌, ◌+◌, ◌≤◌, length, Some, None, Option};
-ghost use Rattle.arch.specs.Walks.{over, Seen, Stepped};
+ghost use Rattle.arch.specs.Walks.{Traced, Gives};
 ghost use Rattle.lookup.specs.Sources.{asked, none_is_not_some, Kept, Empty};
 
 use crate::kind::Kind;
+use crate::trace::Trace;
 use arch::condition::Condition;
 use storage::storage::Storage;
 
@@ -14,14 +15,11 @@ pub trait Source<K: Kind> {
     // The pairs of key and answer that it keeps in any of its layers.
     ghost holds: { Self → K.Key → K.Answer → Type 0 };
 
-    // What an ask for a key does to it, over what each key's walk comes to, and what a purge does. A maker
-    // who leaves the displacement of answers open says as little here as may be told.
-    ghost moves: { Self → (K.Key → Seen K.Answer) → K.Key → Self → Type 0 };
+    // What it may be after an ask for a key, by what each key's walk comes to, and after a purge. A maker who
+    // leaves the displacement of answers open says as little here as may be told.
+    ghost after_ask: { Self → (K.Key → Traced K.Answer) → K.Key → Self → Type 0 };
 
-    ghost clears: { Self → Self → Type 0 };
-
-    // A pair shown is held.
-    ghost shown: { (s : Self) (k : K.Key) (a : K.Answer) → shows s k ≡ Some a → holds s k a };
+    ghost after_purge: { Self → Self → Type 0 };
 
     // Gives the shown answer and lists nothing; with none shown it gives the fresh result and lists each
     // address asked for. What it holds afterwards it held before, or is its key's fresh answer.
@@ -29,18 +27,20 @@ pub trait Source<K: Kind> {
         &mut self,
         storage: &S,
         key: K::Key,
-        list: &mut [u64],
-        used: &mut usize,
+        trace: &mut Trace,
     ) -> Result<K::Answer, Condition>
-        requires { used.old + K.Kind.most ≤ length list.old }
-        ensures gives { Stepped K.Kind.most (asked (shows self.old key) (over K.Kind.limit (S.Storage.view storage.now).word (K.Kind.tree key))) list.old used.old list.new used.new result }
-        ensures keeps { Kept K.Kind.fits (λ k. over K.Kind.limit (S.Storage.view storage.now).word (K.Kind.tree k)) (holds self.old) (holds self.new) }
-        ensures moves { moves self.old (λ k. over K.Kind.limit (S.Storage.view storage.now).word (K.Kind.tree k)) key self.new };
+        requires { length trace.old.items + K.most_reads ≤ 12 }
+        ensures gives { Gives K.most_reads (asked (shows self.old key) (K.fresh (S.view storage.now).word key)) trace.old.items trace.new.items result }
+        ensures keeps { Kept K.fits (K.fresh (S.view storage.now).word) (holds self.old) (holds self.new) }
+        ensures after { after_ask self.old (K.fresh (S.view storage.now).word) key self.new };
 
     // Forgets every pair.
     fn purge(&mut self)
         ensures empty { Empty (holds self.new) }
-        ensures clears { clears self.old self.new };
+        ensures after { after_purge self.old self.new };
+
+    // A pair shown is held.
+    ghost shown_is_held: { (s : Self) (k : K.Key) (a : K.Answer) → shows s k ≡ Some a → holds s k a };
 }
 
 // The source that holds nothing: it walks the tables each time.
@@ -52,20 +52,19 @@ impl<K: Kind> Source<K> for TableWalk {
 
     ghost holds = { λ _ _ _. ⊥ };
 
-    ghost moves = { λ s _ _ t. t ≡ s };
+    ghost after_ask = { λ s _ _ t. t ≡ s };
 
-    ghost clears = { λ s t. t ≡ s };
+    ghost after_purge = { λ s t. t ≡ s };
 
-    ghost shown = { λ _ _ _ e. none_is_not_some e };
+    ghost shown_is_held = { λ _ _ _ e. none_is_not_some e };
 
     fn ask<S: Storage>(
         &mut self,
         storage: &S,
         key: K::Key,
-        list: &mut [u64],
-        used: &mut usize,
+        trace: &mut Trace,
     ) -> Result<K::Answer, Condition> {
-        K::walk(storage, key, list, used)
+        K::walk(storage, key, trace)
     }
 
     fn purge(&mut self) {}

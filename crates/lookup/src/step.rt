@@ -1,8 +1,9 @@
 // The steps that both lookups are made of.
 ghost use Rattle.std.specs.Prelude.{◌≡◌, ◌^◌, ◌<◌, ◌≤◌, length};
-ghost use Rattle.arch.specs.Walks.{Walked, read as reading};
+ghost use Rattle.arch.specs.Walks.{Walks, read as reading};
 ghost use Rattle.lookup.specs.Checks.{checked};
 
+use crate::trace::Trace;
 use arch::condition::Condition;
 use storage::storage::Storage;
 
@@ -12,19 +13,17 @@ pub(crate) fn read<S: Storage>(
     storage: &S,
     at: u128,
     limit: u128,
-    list: &mut [u64],
-    used: &mut usize,
+    trace: &mut Trace,
 ) -> Result<u64, Condition>
     requires limit { limit ≤ 2 ^ 64 }
-    requires room { used.old < length list.old }
-    ensures { Walked 1 limit (S.Storage.view storage.now).word (reading at) list.old used.old list.new used.new result }
+    requires room { length trace.old.items < 12 }
+    ensures { Walks 1 limit (S.view storage.now).word (reading at) trace.old.items trace.new.items result }
 {
     if at >= limit {
         return Err(Condition::Addressing);
     }
     let address = at as u64;
-    list[*used] = address;
-    *used += 1;
+    trace.push(address);
     storage.fetch(address).ok_or(Condition::Addressing)
 }
 

@@ -5,7 +5,7 @@ use Rattle.arch.specs.declared.call.Access.{Access}
 use Rattle.arch.specs.declared.condition.Condition.{Condition}
 use Rattle.arch.specs.declared.condition.Condition.TheVariants.{BadNumber, Unaligned, ShortList, LowAddress, Addressing, AccessList, Page, Key}
 use Rattle.arch.specs.Order.{Row, row, first_of, verdict, value}
-use Rattle.arch.specs.Walks.{Seen, given, onward, then}
+use Rattle.arch.specs.Walks.{Traced, given, onward, then}
 use Rattle.storage.specs.Views.{View, block_of}
 use Rattle.lookup.specs.declared.access.AccessAnswer.{AccessAnswer}
 use Rattle.lookup.specs.declared.access.AccessKey.{AccessKey}
@@ -127,18 +127,18 @@ module _ (r : Registers) (view : View) (access : Access) (register address place
       ∙ ap (λ o. verdict o tt) (sym is.0)
 
 -- a step that is answered, after one that was
-then_answer : {A B : Type 0} (s : Seen A) (k : A → Seen B) (b : B) → (then s k).result ≡ Ok b → (a : A) × ((s.result ≡ Ok a) × ((k a).result ≡ Ok b))
+then_answer : {A B : Type 0} (s : Traced A) (k : A → Traced B) (b : B) → (then s k).result ≡ Ok b → (a : A) × ((s.result ≡ Ok a) × ((k a).result ≡ Ok b))
 then_answer {A} {B} s k b e = by s.result refl e
   where
-    by : (o : Result A Condition) → s.result ≡ o → (onward s.list o k).result ≡ Ok b → (a : A) × ((s.result ≡ Ok a) × ((k a).result ≡ Ok b))
+    by : (o : Result A Condition) → s.result ≡ o → (onward s.trace o k).result ≡ Ok b → (a : A) × ((s.result ≡ Ok a) × ((k a).result ≡ Ok b))
     by (Ok a) same h = (a, (same, h))
     by (Err c) same h = absurd (clash (ap is_ok h))
 
-past_unless : {B : Type 0} (c : Condition) (t : Bool) (s : Seen B) (b : B) → (then (unless c t) (λ _. s)).result ≡ Ok b → (t ≡ false) × (s.result ≡ Ok b)
+past_unless : {B : Type 0} (c : Condition) (t : Bool) (s : Traced B) (b : B) → (then (unless c t) (λ _. s)).result ≡ Ok b → (t ≡ false) × (s.result ≡ Ok b)
 past_unless c true s b e = absurd (clash (ap is_ok e))
 past_unless c false s b e = (refl, e)
 
-module _ (r : Registers) (asks : AccessKey → Seen AccessAnswer) (finds : PageKey → Seen PageAnswer) (view : View) (access : Access) where
+module _ (r : Registers) (asks : AccessKey → Traced AccessAnswer) (finds : PageKey → Traced PageAnswer) (view : View) (access : Access) where
   real_even : (space : Option AccessAnswer) (a x : ℕ) → a % 8 ≡ 0 → (real_of finds access space a).result ≡ Ok x → x % 8 ≡ 0
   real_even None a x even e = subst (λ y. y % 8 ≡ 0) (ok_same e) even
   real_even (Some space) a x even e =

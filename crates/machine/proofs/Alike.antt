@@ -4,7 +4,7 @@ use borrow.Author.Tests.{clash}
 use Rattle.arch.specs.declared.call.Access.{Access}
 use Rattle.arch.specs.declared.condition.Condition.{Condition}
 use Rattle.arch.specs.declared.condition.Condition.TheVariants.{BadNumber, ShortList, LowAddress, Addressing, Key}
-use Rattle.arch.specs.Walks.{Walk, Seen, given, onward, then, over, Agree}
+use Rattle.arch.specs.Walks.{Walk, Traced, given, onward, then, over, Agree}
 use Rattle.arch.proofs.Walks.{over_local}
 use Rattle.storage.specs.Views.{View, block_of}
 use Rattle.lookup.specs.declared.access.AccessKey.{AccessKey}
@@ -30,59 +30,59 @@ module _ (w v : ℕ → Option ℕ) where
   agree_back [] ys h = h
   agree_back (x ∷ xs) ys h = agree_back xs ys h.1
 
-  onward_front : {A B : Type 0} (l : List ℕ) (r : Result A Condition) (k : A → Seen B) → Agree w v (onward l r k).list → Agree w v l
-  onward_front l (Ok a) k h = agree_front l (k a).list h
+  onward_front : {A B : Type 0} (l : List ℕ) (r : Result A Condition) (k : A → Traced B) → Agree w v (onward l r k).trace → Agree w v l
+  onward_front l (Ok a) k h = agree_front l (k a).trace h
   onward_front l (Err c) k h = h
 
-  onward_back : {A B : Type 0} (l : List ℕ) (r : Result A Condition) (k : A → Seen B) (a : A) → r ≡ Ok a → Agree w v (onward l r k).list → Agree w v (k a).list
-  onward_back {A} l (Ok b) k a e h = subst (λ x. Agree w v (k x).list) (ok_is e) (agree_back l (k b).list h)
+  onward_back : {A B : Type 0} (l : List ℕ) (r : Result A Condition) (k : A → Traced B) (a : A) → r ≡ Ok a → Agree w v (onward l r k).trace → Agree w v (k a).trace
+  onward_back {A} l (Ok b) k a e h = subst (λ x. Agree w v (k x).trace) (ok_is e) (agree_back l (k b).trace h)
     where
       ok_is : ◌≡◌ {A = Result A Condition} (Ok b) (Ok a) → b ≡ a
       ok_is e = cc
   onward_back l (Err c) k a e h = absurd (clash (ap is_ok e))
 
-onward_alike : {A B : Type 0} (l : List ℕ) (r : Result A Condition) (k j : A → Seen B) → ((a : A) → r ≡ Ok a → j a ≡ k a) → onward l r j ≡ onward l r k
-onward_alike l (Ok a) k j same = ap (λ s. record { result = s.result; list = l ++ s.list }) (same a refl)
+onward_alike : {A B : Type 0} (l : List ℕ) (r : Result A Condition) (k j : A → Traced B) → ((a : A) → r ≡ Ok a → j a ≡ k a) → onward l r j ≡ onward l r k
+onward_alike l (Ok a) k j same = ap (λ s. record { result = s.result; trace = l ++ s.trace }) (same a refl)
 onward_alike l (Err c) k j same = refl
 
 -- the first step alike, and then the second
 module _ (w v : ℕ → Option ℕ) where
-  then_alike : {A B : Type 0} (s t : Seen A) (k j : A → Seen B) → (Agree w v s.list → t ≡ s) → ((a : A) → s.result ≡ Ok a → Agree w v (k a).list → j a ≡ k a) → Agree w v (then s k).list → then t j ≡ then s k
+  then_alike : {A B : Type 0} (s t : Traced A) (k j : A → Traced B) → (Agree w v s.trace → t ≡ s) → ((a : A) → s.result ≡ Ok a → Agree w v (k a).trace → j a ≡ k a) → Agree w v (then s k).trace → then t j ≡ then s k
   then_alike s t k j first second h =
-      ap (λ x. then x j) (first (onward_front w v s.list s.result k h))
-      ∙ onward_alike s.list s.result k j (λ a e. second a e (onward_back w v s.list s.result k a e h))
+      ap (λ x. then x j) (first (onward_front w v s.trace s.result k h))
+      ∙ onward_alike s.trace s.result k j (λ a e. second a e (onward_back w v s.trace s.result k a e h))
 
-  asked_alike : {A : Type 0} (limit : ℕ) (tree : Walk A) (o p : Option A) → o ≡ p → Agree w v (asked o (over limit w tree)).list → asked p (over limit v tree) ≡ asked o (over limit w tree)
+  asked_alike : {A : Type 0} (limit : ℕ) (tree : Walk A) (o p : Option A) → o ≡ p → Agree w v (asked o (over limit w tree)).trace → asked p (over limit v tree) ≡ asked o (over limit w tree)
   asked_alike {A} limit tree o p same h = ap (λ x. asked x (over limit v tree)) (sym same) ∙ by o h
     where
-      by : (o : Option A) → Agree w v (asked o (over limit w tree)).list → asked o (over limit v tree) ≡ asked o (over limit w tree)
+      by : (o : Option A) → Agree w v (asked o (over limit w tree)).trace → asked o (over limit v tree) ≡ asked o (over limit w tree)
       by None h = over_local limit w tree v h
       by (Some a) h = refl
 
-  module _ (r : Registers) (one two : AccessKey → Seen AccessAnswer) where
-    token_alike : (alet : ℕ) → ((k : AccessKey) → token_asks r alet ≡ Some k → Agree w v (one k).list → two k ≡ one k) → Agree w v (space_of_token r one alet).list → space_of_token r two alet ≡ space_of_token r one alet
+  module _ (r : Registers) (one two : AccessKey → Traced AccessAnswer) where
+    token_alike : (alet : ℕ) → ((k : AccessKey) → token_asks r alet ≡ Some k → Agree w v (one k).trace → two k ≡ one k) → Agree w v (space_of_token r one alet).trace → space_of_token r two alet ≡ space_of_token r one alet
     token_alike alet same h = by (eqb alet 0) (eqb alet 1) same h
       where
-        by : (p q : Bool) → ((k : AccessKey) → cond p None (cond q None (Some (access_key r alet))) ≡ Some k → Agree w v (one k).list → two k ≡ one k) → Agree w v (cond p (held_in r.control.c1) (cond q (held_in r.control.c7) (looked_up one (access_key r alet)))).list → cond p (held_in r.control.c1) (cond q (held_in r.control.c7) (looked_up two (access_key r alet))) ≡ cond p (held_in r.control.c1) (cond q (held_in r.control.c7) (looked_up one (access_key r alet)))
+        by : (p q : Bool) → ((k : AccessKey) → cond p None (cond q None (Some (access_key r alet))) ≡ Some k → Agree w v (one k).trace → two k ≡ one k) → Agree w v (cond p (held_in r.control.c1) (cond q (held_in r.control.c7) (looked_up one (access_key r alet)))).trace → cond p (held_in r.control.c1) (cond q (held_in r.control.c7) (looked_up two (access_key r alet))) ≡ cond p (held_in r.control.c1) (cond q (held_in r.control.c7) (looked_up one (access_key r alet)))
         by true q f g = refl
         by false true f g = refl
         by false false f g = then_alike (one (access_key r alet)) (two (access_key r alet)) (λ a. given (Some a)) (λ a. given (Some a)) (f (access_key r alet) refl) (λ a e t. refl) g
 
-    register_alike : (register : ℕ) → ((k : AccessKey) → register_asks r register ≡ Some k → Agree w v (one k).list → two k ≡ one k) → Agree w v (space_of_register r one register).list → space_of_register r two register ≡ space_of_register r one register
+    register_alike : (register : ℕ) → ((k : AccessKey) → register_asks r register ≡ Some k → Agree w v (one k).trace → two k ≡ one k) → Agree w v (space_of_register r one register).trace → space_of_register r two register ≡ space_of_register r one register
     register_alike register same h = by (eqb register 0) same h
       where
-        by : (p : Bool) → ((k : AccessKey) → cond p None (token_asks r (get_or r.access register 0)) ≡ Some k → Agree w v (one k).list → two k ≡ one k) → Agree w v (cond p (held_in r.control.c1) (space_of_token r one (get_or r.access register 0))).list → cond p (held_in r.control.c1) (space_of_token r two (get_or r.access register 0)) ≡ cond p (held_in r.control.c1) (space_of_token r one (get_or r.access register 0))
+        by : (p : Bool) → ((k : AccessKey) → cond p None (token_asks r (get_or r.access register 0)) ≡ Some k → Agree w v (one k).trace → two k ≡ one k) → Agree w v (cond p (held_in r.control.c1) (space_of_token r one (get_or r.access register 0))).trace → cond p (held_in r.control.c1) (space_of_token r two (get_or r.access register 0)) ≡ cond p (held_in r.control.c1) (space_of_token r one (get_or r.access register 0))
         by true f g = refl
         by false f g = token_alike (get_or r.access register 0) f g
 
-    space_alike : (mode register : ℕ) → ((k : AccessKey) → mode_asks mode r register ≡ Some k → Agree w v (one k).list → two k ≡ one k) → Agree w v (space_by_mode mode r one register).list → space_by_mode mode r two register ≡ space_by_mode mode r one register
+    space_alike : (mode register : ℕ) → ((k : AccessKey) → mode_asks mode r register ≡ Some k → Agree w v (one k).trace → two k ≡ one k) → Agree w v (space_by_mode mode r one register).trace → space_by_mode mode r two register ≡ space_by_mode mode r one register
     space_alike zero register same h = refl
     space_alike (suc zero) register same h = refl
     space_alike (suc (suc zero)) register same h = register_alike register same h
     space_alike (suc (suc (suc zero))) register same h = refl
     space_alike (suc (suc (suc (suc n)))) register same h = refl
 
-  real_alike : (one two : PageKey → Seen PageAnswer) (access : Access) (space : Option AccessAnswer) (a : ℕ) → ((k : PageKey) → space_asks space a ≡ Some k → Agree w v (one k).list → two k ≡ one k) → Agree w v (real_of one access space a).list → real_of two access space a ≡ real_of one access space a
+  real_alike : (one two : PageKey → Traced PageAnswer) (access : Access) (space : Option AccessAnswer) (a : ℕ) → ((k : PageKey) → space_asks space a ≡ Some k → Agree w v (one k).trace → two k ≡ one k) → Agree w v (real_of one access space a).trace → real_of two access space a ≡ real_of one access space a
   real_alike one two access None a same h = refl
   real_alike one two access (Some space) a same h = then_alike (one (page_key space.asce a)) (two (page_key space.asce a)) (framed access space a) (framed access space a) (same (page_key space.asce a) refl) (λ p e t. refl) h
 
@@ -91,8 +91,8 @@ reached_alike : (r : Registers) (one two : View) (access : Access) (real : ℕ) 
 reached_alike r one two access real present key =
     ap₂ (λ p k. then (unless Addressing (not p)) (λ _. then (unless Key (key_protected r.key access k)) (λ _. given real))) (sym present) (sym key)
 
-then_ok : {A B : Type 0} (s : Seen A) (k : A → Seen B) (a : A) → s.result ≡ Ok a → (then s k).result ≡ (k a).result
-then_ok s k a e = ap (λ r. (onward s.list r k).result) e
+then_ok : {A B : Type 0} (s : Traced A) (k : A → Traced B) (a : A) → s.result ≡ Ok a → (then s k).result ≡ (k a).result
+then_ok s k a e = ap (λ r. (onward s.trace r k).result) e
 
 unless_passed : (c : Condition) (t : Bool) (u : Unit {0}) → (unless c t).result ≡ Ok u → t ≡ false
 unless_passed c true u e = absurd (clash (ap is_ok e))
@@ -111,16 +111,16 @@ module _ (r : Registers) (m n : SeenBy) (access : Access) (register address plac
   low : Bool
   low = low_protected r access a
 
-  last : SeenBy → Option AccessAnswer → Seen ℕ
+  last : SeenBy → Option AccessAnswer → Traced ℕ
   last x space = then (real_of (page_asks x.pages x.view.word) access space a) (λ real. reached r x.view access real)
 
-  late : SeenBy → Option AccessAnswer → Seen ℕ
+  late : SeenBy → Option AccessAnswer → Traced ℕ
   late x space = then (unless LowAddress low) (λ _. last x space)
 
   unrefused : ltb 15 register ≡ false → ltb places 12 ≡ false → refuses_translation register places ≡ false
   unrefused number room = ap₂ (λ x y. x || y) number room
 
-  last_alike : ltb 15 register ≡ false → ltb places 12 ≡ false → (space : Option AccessAnswer) (u : Unit {0}) → (space_seen r m access register address places).result ≡ Ok space → (unless LowAddress low).result ≡ Ok u → Agree w v (last m space).list → last n space ≡ last m space
+  last_alike : ltb 15 register ≡ false → ltb places 12 ≡ false → (space : Option AccessAnswer) (u : Unit {0}) → (space_seen r m access register address places).result ≡ Ok space → (unless LowAddress low).result ≡ Ok u → Agree w v (last m space).trace → last n space ≡ last m space
   unfolding w v a low last
   last_alike number room space u found passed h =
       let free = unless_passed LowAddress (low_protected r access (cut r.size address)) u passed in
@@ -136,7 +136,7 @@ module _ (r : Registers) (m n : SeenBy) (access : Access) (register address plac
       reached_alike r m.view n.view access real (alike.present real seen) (alike.key real seen))
       h
 
-  reach_alike : ltb 15 register ≡ false → ltb places 12 ≡ false → Agree w v (then (space_seen r m access register address places) (late m)).list → then (space_seen r n access register address places) (late n) ≡ then (space_seen r m access register address places) (late m)
+  reach_alike : ltb 15 register ≡ false → ltb places 12 ≡ false → Agree w v (then (space_seen r m access register address places) (late m)).trace → then (space_seen r n access register address places) (late n) ≡ then (space_seen r m access register address places) (late m)
   unfolding w v a low last late
   reach_alike number room h =
       then_alike m.view.word n.view.word (space_seen r m access register address places) (space_seen r n access register address places) (late m) (late n)

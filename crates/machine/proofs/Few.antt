@@ -3,7 +3,7 @@ use Rattle.std.proofs.Common.{ℕ, zero, suc, ◌+◌, ◌*◌, ◌/◌, ◌≤�
 use Rattle.arch.specs.declared.call.Access.{Access}
 use Rattle.arch.specs.declared.condition.Condition.{Condition}
 use Rattle.arch.specs.declared.condition.Condition.TheVariants.{BadNumber, ShortList, LowAddress, Addressing, AccessList, Page, Key}
-use Rattle.arch.specs.Walks.{Seen, given, then}
+use Rattle.arch.specs.Walks.{Traced, given, then}
 use Rattle.arch.proofs.Walks.{few_onward}
 use Rattle.storage.specs.Views.{View, block_of}
 use Rattle.lookup.specs.declared.access.AccessKey.{AccessKey}
@@ -17,21 +17,21 @@ use Rattle.machine.specs.Registers.{Registers}
 use Rattle.machine.specs.Translation.{unless, is_store, cut, access_key, held_in, looked_up, space_of_token, space_of_register, space_by_mode, low_protected, page_key, real_address, framed, real_of, key_protected, reached, reach, translation}
 
 -- a call lists at most so many addresses
-abbrev pub Short : {A : Type 0} → ℕ → Seen A → Type 0
-Short n s = length s.list ≤ n
+abbrev pub Short : {A : Type 0} → ℕ → Traced A → Type 0
+Short n s = length s.trace ≤ n
 
-short_then : {A B : Type 0} (m n : ℕ) (s : Seen A) (k : A → Seen B) → Short m s → ((a : A) → Short n (k a)) → Short (m + n) (then s k)
-short_then m n s k first rest = few_onward m n s.list s.result k first rest
+short_then : {A B : Type 0} (m n : ℕ) (s : Traced A) (k : A → Traced B) → Short m s → ((a : A) → Short n (k a)) → Short (m + n) (then s k)
+short_then m n s k first rest = few_onward m n s.trace s.result k first rest
 
 short_unless : (c : Condition) (t : Bool) → Short 0 (unless c t)
 short_unless c true = omega arith
 short_unless c false = omega arith
 
-short_asked : {A : Type 0} (n : ℕ) (o : Option A) (s : Seen A) → Short n s → Short n (asked o s)
+short_asked : {A : Type 0} (n : ℕ) (o : Option A) (s : Traced A) → Short n s → Short n (asked o s)
 short_asked n None s few = few
 short_asked n (Some a) s few = omega arith
 
-module _ (r : Registers) (asks : AccessKey → Seen AccessAnswer) (few : (k : AccessKey) → Short 7 (asks k)) where
+module _ (r : Registers) (asks : AccessKey → Traced AccessAnswer) (few : (k : AccessKey) → Short 7 (asks k)) where
   short_token : (alet : ℕ) → Short 7 (space_of_token r asks alet)
   short_token alet = by (eqb alet 0) (eqb alet 1)
     where
@@ -63,7 +63,7 @@ short_two c d false false a = omega arith
 short_framed : (access : Access) (space : AccessAnswer) (a : ℕ) (page : PageAnswer) → Short 0 (framed access space a page)
 short_framed access space a page = short_two AccessList Page (is_store access && space.fetch_only) (is_store access && page.protect) (real_address page.frame a)
 
-short_real : (asks : PageKey → Seen PageAnswer) → ((k : PageKey) → Short 5 (asks k)) → (access : Access) (space : Option AccessAnswer) (a : ℕ) → Short 5 (real_of asks access space a)
+short_real : (asks : PageKey → Traced PageAnswer) → ((k : PageKey) → Short 5 (asks k)) → (access : Access) (space : Option AccessAnswer) (a : ℕ) → Short 5 (real_of asks access space a)
 short_real asks few access None a = omega arith
 short_real asks few access (Some space) a = short_then 5 0 (asks (page_key space.asce a)) (framed access space a) (few (page_key space.asce a)) (short_framed access space a)
 
@@ -71,10 +71,10 @@ short_reached : (r : Registers) (view : View) (access : Access) (real : ℕ) →
 short_reached r view access real = short_two Addressing Key (not (is_some (view.word (real / 8 * 8)))) (key_protected r.key access (view.key (block_of real))) real
 
 module _ (r : Registers) (arts : AccessKey → Option AccessAnswer) (pages : PageKey → Option PageAnswer) (view : View) (access : Access) (register address places : ℕ) where
-  abbrev art_asks : AccessKey → Seen AccessAnswer
+  abbrev art_asks : AccessKey → Traced AccessAnswer
   art_asks = access_asks arts view.word
 
-  abbrev finds : PageKey → Seen PageAnswer
+  abbrev finds : PageKey → Traced PageAnswer
   finds = page_asks pages view.word
 
   short_reach : Short 12 (reach r art_asks finds view access register (cut r.size address))

@@ -4,7 +4,7 @@ use borrow.Author.Tests.{clash}
 use Rattle.arch.specs.declared.call.Access.{Access}
 use Rattle.arch.specs.declared.condition.Condition.{Condition}
 use Rattle.arch.specs.declared.condition.Condition.TheVariants.{BadNumber, Unaligned, ShortList}
-use Rattle.arch.specs.Walks.{Seen, then}
+use Rattle.arch.specs.Walks.{Traced, then}
 use Rattle.storage.specs.Views.{View}
 use Rattle.lookup.specs.declared.access.AccessKey.{AccessKey}
 use Rattle.lookup.specs.declared.access.AccessAnswer.{AccessAnswer}
@@ -53,12 +53,12 @@ module _ (r : Registers) (small : Bounded r) where
   asked_fits (suc (suc (suc n))) register k e = absurd (clash (ap is_some e))
 
 -- refused before anything is asked: what would be asked does not matter
-refused_same : {A : Type 0} (p q : Bool) (s t : Seen A) → (p || q) ≡ true → (then (unless BadNumber p) (λ _. then (unless ShortList q) (λ _. s))).result ≡ (then (unless BadNumber p) (λ _. then (unless ShortList q) (λ _. t))).result
+refused_same : {A : Type 0} (p q : Bool) (s t : Traced A) → (p || q) ≡ true → (then (unless BadNumber p) (λ _. then (unless ShortList q) (λ _. s))).result ≡ (then (unless BadNumber p) (λ _. then (unless ShortList q) (λ _. t))).result
 refused_same true q s t e = refl
 refused_same false true s t e = refl
 refused_same false false s t e = absurd (clash e)
 
-access_refused_same : {A : Type 0} (p q u : Bool) (s t : Seen A) → (p || (q || u)) ≡ true → (then (unless BadNumber p) (λ _. then (unless Unaligned q) (λ _. then (unless ShortList u) (λ _. s)))).result ≡ (then (unless BadNumber p) (λ _. then (unless Unaligned q) (λ _. then (unless ShortList u) (λ _. t)))).result
+access_refused_same : {A : Type 0} (p q u : Bool) (s t : Traced A) → (p || (q || u)) ≡ true → (then (unless BadNumber p) (λ _. then (unless Unaligned q) (λ _. then (unless ShortList u) (λ _. s)))).result ≡ (then (unless BadNumber p) (λ _. then (unless Unaligned q) (λ _. then (unless ShortList u) (λ _. t)))).result
 access_refused_same true q u s t e = refl
 access_refused_same false true u s t e = refl
 access_refused_same false false true s t e = refl
@@ -72,10 +72,10 @@ abbrev pub aligned_asked : Access → ℕ → ℕ → ℕ → Translating
 aligned_asked access register address places = record { access = access; register = register; address = address; refused = refuses_access register address places }
 
 module _ (r : Registers) (view : View) (small : Bounded r) (shown : Shown) (arts_earlier pages_earlier : List (ℕ → Option ℕ)) (arts_once : FreshOnce AccessFits access_fresh (view.word ∷ arts_earlier) shown.arts) (pages_once : FreshOnce PageFits page_fresh (view.word ∷ pages_earlier) shown.pages) (access : Access) (register address places : ℕ) where
-  abbrev as_shown : Seen ℕ
+  abbrev as_shown : Traced ℕ
   as_shown = translation r (access_asks shown.arts view.word) (page_asks shown.pages view.word) view access register address places
 
-  abbrev afresh : Seen ℕ
+  abbrev afresh : Traced ℕ
   afresh = translation r (access_fresh view.word) (page_fresh view.word) view access register address places
 
   abbrev art_wanted : Option AccessKey
@@ -86,8 +86,8 @@ module _ (r : Registers) (view : View) (small : Bounded r) (shown : Shown) (arts
 
   -- not refused: the keys wanted are asked for
   unrefused_same : (b : Bool) → b ≡ false
-      → ((k : AccessKey) → cond b None art_wanted ≡ Some k → Steady view.word (view.word ∷ arts_earlier) (access_fresh view.word k).list)
-      → ((k : PageKey) → cond b None page_wanted ≡ Some k → Steady view.word (view.word ∷ pages_earlier) (page_fresh view.word k).list)
+      → ((k : AccessKey) → cond b None art_wanted ≡ Some k → Steady view.word (view.word ∷ arts_earlier) (access_fresh view.word k).trace)
+      → ((k : PageKey) → cond b None page_wanted ≡ Some k → Steady view.word (view.word ∷ pages_earlier) (page_fresh view.word k).trace)
       → as_shown.result ≡ afresh.result
   unrefused_same b e arts_same pages_same =
       let now = view.word in
@@ -114,7 +114,7 @@ module _ (r : Registers) (view : View) (small : Bounded r) (shown : Shown) (arts
           (λ _ _. then_same (unless ShortList (ltb places 12)) (unless ShortList (ltb places 12)) (λ _. as_shown) (λ _. afresh) refl (λ _ _. unrefused_same (refuses_access register address places) e arts_same pages_same)))
 
 -- what is held afterwards was held before, or is fresh now
-sound_kept : {Key Answer : Type 0} (fits : Key → Type 0) (fresh : (ℕ → Option ℕ) → Key → Seen Answer) (now : ℕ → Option ℕ) (earlier : List (ℕ → Option ℕ)) (before after : Key → Answer → Type 0) → Kept fits (fresh now) before after → Sound fits fresh (now ∷ earlier) before → Sound fits fresh (now ∷ earlier) after
+sound_kept : {Key Answer : Type 0} (fits : Key → Type 0) (fresh : (ℕ → Option ℕ) → Key → Traced Answer) (now : ℕ → Option ℕ) (earlier : List (ℕ → Option ℕ)) (before after : Key → Answer → Type 0) → Kept fits (fresh now) before after → Sound fits fresh (now ∷ earlier) before → Sound fits fresh (now ∷ earlier) after
 sound_kept fits fresh now earlier before after kept sound k a fit h = by (kept k a fit h)
   where
     by : before k a ⊎ ((fresh now k).result ≡ Ok a) → Once (λ w. (fresh w k).result ≡ Ok a) (now ∷ earlier)

@@ -5,26 +5,26 @@ use Rattle.arch.specs.declared.call.Access.{Access}
 use Rattle.arch.specs.declared.condition.Condition.{Condition}
 use Rattle.arch.specs.declared.condition.Condition.TheVariants.{BadNumber, ShortList, Addressing, LowAddress, AccessList, Page, Key}
 use Rattle.arch.specs.Order.{Row, row, first_of, verdict, Ordered}
-use Rattle.arch.specs.Walks.{Seen, given, onward, then}
+use Rattle.arch.specs.Walks.{Traced, given, onward, then}
 use Rattle.arch.proofs.Ordered.{ordered_then}
 use Rattle.storage.specs.Views.{View, block_of}
 use Rattle.lookup.specs.declared.access.AccessAnswer.{AccessAnswer}
 use Rattle.lookup.specs.Lookups.{access_fresh, page_fresh}
 use Rattle.lookup.specs.Sources.{asked, Silent}
-use Rattle.lookup.specs.Orders.{access_rows, access_found, paging_rows, paging_found}
+use Rattle.lookup.specs.Orders.{access_conditions, access_finds, page_conditions, page_finds}
 use Rattle.lookup.proofs.InOrder.{access_ordered, paging_ordered}
 use Rattle.machine.specs.Registers.{Registers}
 use Rattle.machine.specs.Orders.{plain, token_space, register_space, mode_space, lookup_rows, space_rows, space_real, reach_rows, real_found, translation_rows}
 use Rattle.machine.specs.Translation.{unless, is_store, cut, access_key, real_address, key_protected, held_in, looked_up, space_of_token, space_of_register, space_by_mode, token_asks, register_asks, mode_asks, low_protected, page_key, framed, real_of, reached, reach, translation}
 
-unless_first : {B : Type 0} (c : Condition) (t : Bool) (s : Seen B) (rows : List Row) (b : B) → Ordered rows b s.result → Ordered (row c t ∷ rows) b (then (unless c t) (λ _. s)).result
+unless_first : {B : Type 0} (c : Condition) (t : Bool) (s : Traced B) (rows : List Row) (b : B) → Ordered rows b s.result → Ordered (row c t ∷ rows) b (then (unless c t) (λ _. s)).result
 unless_first c true s rows b p = refl
 unless_first c false s rows b p = p
 
-some_found : (s : Seen AccessAnswer) (rows : List Row) (a : AccessAnswer) → Ordered rows a s.result → Ordered rows (Some a) (then s (λ x. given (Some x))).result
-some_found s rows a p = ap (λ o. (onward s.list o (λ x. given (Some x))).result) p ∙ by (first_of rows)
+some_found : (s : Traced AccessAnswer) (rows : List Row) (a : AccessAnswer) → Ordered rows a s.result → Ordered rows (Some a) (then s (λ x. given (Some x))).result
+some_found s rows a p = ap (λ o. (onward s.trace o (λ x. given (Some x))).result) p ∙ by (first_of rows)
   where
-    by : (o : Option Condition) → (onward s.list (verdict o a) (λ x. given (Some x))).result ≡ verdict o (Some a)
+    by : (o : Option Condition) → (onward s.trace (verdict o a) (λ x. given (Some x))).result ≡ verdict o (Some a)
     by None = refl
     by (Some c) = refl
 
@@ -32,10 +32,10 @@ module _ (word : ℕ → Option ℕ) (r : Registers) where
   token_ordered : (alet : ℕ) → Ordered (lookup_rows word (token_asks r alet)) (token_space word r alet) (space_of_token r (access_fresh word) alet).result
   token_ordered alet = by (eqb alet 0) (eqb alet 1)
     where
-      by : (p q : Bool) → Ordered (lookup_rows word (cond p None (cond q None (Some (access_key r alet))))) (cond p (plain r.control.c1) (cond q (plain r.control.c7) (Some (access_found word (access_key r alet))))) (cond p (held_in r.control.c1) (cond q (held_in r.control.c7) (looked_up (access_fresh word) (access_key r alet)))).result
+      by : (p q : Bool) → Ordered (lookup_rows word (cond p None (cond q None (Some (access_key r alet))))) (cond p (plain r.control.c1) (cond q (plain r.control.c7) (Some (access_finds word (access_key r alet))))) (cond p (held_in r.control.c1) (cond q (held_in r.control.c7) (looked_up (access_fresh word) (access_key r alet)))).result
       by true q = refl
       by false true = refl
-      by false false = some_found (access_fresh word (access_key r alet)) (access_rows word (access_key r alet)) (access_found word (access_key r alet)) (access_ordered word (access_key r alet)).ordered
+      by false false = some_found (access_fresh word (access_key r alet)) (access_conditions word (access_key r alet)) (access_finds word (access_key r alet)) (access_ordered word (access_key r alet)).ordered
 
   register_ordered : (register : ℕ) → Ordered (lookup_rows word (register_asks r register)) (register_space word r register) (space_of_register r (access_fresh word) register).result
   register_ordered register = by (eqb register 0)
@@ -55,8 +55,8 @@ space_ordered : (word : ℕ → Option ℕ) (access : Access) (space : Option Ac
 space_ordered word access None a = refl
 space_ordered word access (Some space) a =
     let k = page_key space.asce a in
-    let page = paging_found word k in
-    ordered_then (page_fresh word k) (framed access space a) (paging_rows word k) (row AccessList (is_store access && space.fetch_only) ∷ row Page (is_store access && page.protect) ∷ []) page (real_address page.frame a) (paging_ordered word k).ordered
+    let page = page_finds word k in
+    ordered_then (page_fresh word k) (framed access space a) (page_conditions word k) (row AccessList (is_store access && space.fetch_only) ∷ row Page (is_store access && page.protect) ∷ []) page (real_address page.frame a) (paging_ordered word k).ordered
     (unless_first AccessList (is_store access && space.fetch_only) (then (unless Page (is_store access && page.protect)) (λ _. given (real_address page.frame a))) (row Page (is_store access && page.protect) ∷ []) (real_address page.frame a) (unless_first Page (is_store access && page.protect) (given (real_address page.frame a)) [] (real_address page.frame a) refl))
 
 reach_ordered : (r : Registers) (view : View) (access : Access) (real : ℕ) → Ordered (reach_rows r view access real) real (reached r view access real).result
@@ -79,5 +79,5 @@ translation_ordered r view access register address places =
     (unless_first ShortList (ltb places 12) (reach r (access_fresh word) (page_fresh word) view access register a) whole real all)
 
 -- sources that show nothing give what is walked afresh
-pub silent_asks : {Key Answer : Type 0} (shows : Key → Option Answer) (fresh : Key → Seen Answer) → Silent shows → (λ k. asked (shows k) (fresh k)) ≡ fresh
+pub silent_asks : {Key Answer : Type 0} (shows : Key → Option Answer) (fresh : Key → Traced Answer) → Silent shows → (λ k. asked (shows k) (fresh k)) ≡ fresh
 silent_asks shows fresh none = fun_ext (λ k. ap (λ o. asked o (fresh k)) (none k))

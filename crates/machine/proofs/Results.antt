@@ -3,7 +3,7 @@ use Rattle.std.proofs.Common.{◌≡◌, ℕ, zero, suc, Bool, true, false, cond
 use Rattle.arch.specs.declared.call.Access.{Access}
 use Rattle.arch.specs.declared.condition.Condition.{Condition}
 use Rattle.arch.specs.declared.condition.Condition.TheVariants.{BadNumber, ShortList, LowAddress}
-use Rattle.arch.specs.Walks.{Seen, given, onward, then}
+use Rattle.arch.specs.Walks.{Traced, given, onward, then}
 use Rattle.storage.specs.Views.{View}
 use Rattle.lookup.specs.declared.access.AccessKey.{AccessKey}
 use Rattle.lookup.specs.declared.access.AccessAnswer.{AccessAnswer}
@@ -12,14 +12,14 @@ use Rattle.lookup.specs.declared.page.PageAnswer.{PageAnswer}
 use Rattle.machine.specs.Registers.{Registers}
 use Rattle.machine.specs.Translation.{unless, cut, access_key, held_in, looked_up, space_of_token, space_of_register, space_by_mode, token_asks, register_asks, mode_asks, low_protected, page_key, framed, real_of, space_asks, page_asked, reached, reach, translation}
 
-onward_same : {A B : Type 0} (l m : List ℕ) (r : Result A Condition) (k j : A → Seen B) → ((a : A) → r ≡ Ok a → (k a).result ≡ (j a).result) → (onward l r k).result ≡ (onward m r j).result
+onward_same : {A B : Type 0} (l m : List ℕ) (r : Result A Condition) (k j : A → Traced B) → ((a : A) → r ≡ Ok a → (k a).result ≡ (j a).result) → (onward l r k).result ≡ (onward m r j).result
 onward_same l m (Ok a) k j same = same a refl
 onward_same l m (Err c) k j same = refl
 
-pub then_same : {A B : Type 0} (s t : Seen A) (k j : A → Seen B) → s.result ≡ t.result → ((a : A) → t.result ≡ Ok a → (k a).result ≡ (j a).result) → (then s k).result ≡ (then t j).result
-then_same s t k j e same = ap (λ r. (onward s.list r k).result) e ∙ onward_same s.list t.list t.result k j same
+pub then_same : {A B : Type 0} (s t : Traced A) (k j : A → Traced B) → s.result ≡ t.result → ((a : A) → t.result ≡ Ok a → (k a).result ≡ (j a).result) → (then s k).result ≡ (then t j).result
+then_same s t k j e same = ap (λ r. (onward s.trace r k).result) e ∙ onward_same s.trace t.trace t.result k j same
 
-module _ (r : Registers) (one two : AccessKey → Seen AccessAnswer) where
+module _ (r : Registers) (one two : AccessKey → Traced AccessAnswer) where
   token_same : (alet : ℕ) → ((k : AccessKey) → token_asks r alet ≡ Some k → (one k).result ≡ (two k).result) → (space_of_token r one alet).result ≡ (space_of_token r two alet).result
   token_same alet same = by (eqb alet 0) (eqb alet 1) same
     where
@@ -42,11 +42,11 @@ module _ (r : Registers) (one two : AccessKey → Seen AccessAnswer) where
   space_same (suc (suc (suc zero))) register same = refl
   space_same (suc (suc (suc (suc n)))) register same = refl
 
-real_same : (one two : PageKey → Seen PageAnswer) (access : Access) (space : Option AccessAnswer) (a : ℕ) → ((k : PageKey) → space_asks space a ≡ Some k → (one k).result ≡ (two k).result) → (real_of one access space a).result ≡ (real_of two access space a).result
+real_same : (one two : PageKey → Traced PageAnswer) (access : Access) (space : Option AccessAnswer) (a : ℕ) → ((k : PageKey) → space_asks space a ≡ Some k → (one k).result ≡ (two k).result) → (real_of one access space a).result ≡ (real_of two access space a).result
 real_same one two access None a same = refl
 real_same one two access (Some space) a same = then_same (one (page_key space.asce a)) (two (page_key space.asce a)) (framed access space a) (framed access space a) (same (page_key space.asce a) refl) (λ p e. refl)
 
-module _ (r : Registers) (one two : AccessKey → Seen AccessAnswer) (first second : PageKey → Seen PageAnswer) (view : View) (access : Access) (register : ℕ) where
+module _ (r : Registers) (one two : AccessKey → Traced AccessAnswer) (first second : PageKey → Traced PageAnswer) (view : View) (access : Access) (register : ℕ) where
   late_same : (a : ℕ) (space : Option AccessAnswer) (t : Bool) → ((k : PageKey) → cond t None (space_asks space a) ≡ Some k → (first k).result ≡ (second k).result) → (then (unless LowAddress t) (λ _. then (real_of first access space a) (λ real. reached r view access real))).result ≡ (then (unless LowAddress t) (λ _. then (real_of second access space a) (λ real. reached r view access real))).result
   late_same a space true same = refl
   late_same a space false same = then_same (real_of first access space a) (real_of second access space a) (λ real. reached r view access real) (λ real. reached r view access real) (real_same first second access space a same) (λ real e. refl)
@@ -57,7 +57,7 @@ module _ (r : Registers) (one two : AccessKey → Seen AccessAnswer) (first seco
       → (translation r one first view access register address places).result ≡ (translation r two second view access register address places).result
   result_same address places arts pages =
       let a = cut r.size address in
-      let late = λ (asks : PageKey → Seen PageAnswer) (space : Option AccessAnswer). then (unless LowAddress (low_protected r access a)) (λ _. then (real_of asks access space a) (λ real. reached r view access real)) in
+      let late = λ (asks : PageKey → Traced PageAnswer) (space : Option AccessAnswer). then (unless LowAddress (low_protected r access a)) (λ _. then (real_of asks access space a) (λ real. reached r view access real)) in
       let both : (reach r one first view access register a).result ≡ (reach r two second view access register a).result =
       then_same (space_by_mode r.mode r one register) (space_by_mode r.mode r two register) (late first) (late second) (space_same r one two r.mode register arts)
       (λ space found. late_same a space (low_protected r access a) (λ k asks. pages k (ap (page_asked r access a) found ∙ asks))) in

@@ -1,11 +1,11 @@
 -- What a source holds was fresh at a moment since its latest purge, and stays so from call to call.
 use Rattle.std.proofs.Common.{◌≡◌, ℕ, Bool, true, false, cond, ◌⊎◌, List, [], ◌∷◌, Some, None, Ok, MatchBool, Option, sym, refl, ap, ◌∙◌, inl, inr}
-use Rattle.arch.specs.Walks.{Walk, Seen, over}
+use Rattle.arch.specs.Walks.{Walk, Traced, over}
 use Rattle.arch.proofs.Walks.{over_local}
 use Rattle.lookup.specs.Sources.{asked, Kept, Empty}
 use Rattle.machine.specs.Law.{Once, FreshOnce, Steady, Sound}
 
-module _ {Key Answer : Type 0} (fits : Key → Type 0) (fresh : (ℕ → Option ℕ) → Key → Seen Answer) where
+module _ {Key Answer : Type 0} (fits : Key → Type 0) (fresh : (ℕ → Option ℕ) → Key → Traced Answer) where
   -- an empty source is sound at any moment
   pub sound_empty : (since : List (ℕ → Option ℕ)) (holds : Key → Answer → Type 0) → Empty holds → Sound fits fresh since holds
   sound_empty since holds none k a fit h = absurd (none k a h)
@@ -25,11 +25,11 @@ module _ {Key Answer : Type 0} (fits : Key → Type 0) (fresh : (ℕ → Option 
 
 -- an answer that was fresh once is fresh now, where what its walk fetches now has held one value
 module _ {Answer : Type 0} (limit : ℕ) (tree : Walk Answer) (now : ℕ → Option ℕ) where
-  once_now : (since : List (ℕ → Option ℕ)) (a : Answer) → Once (λ w. (over limit w tree).result ≡ Ok a) since → Steady now since (over limit now tree).list → (over limit now tree).result ≡ Ok a
+  once_now : (since : List (ℕ → Option ℕ)) (a : Answer) → Once (λ w. (over limit w tree).result ≡ Ok a) since → Steady now since (over limit now tree).trace → (over limit now tree).result ≡ Ok a
   once_now [] a never steady = absurd never
   once_now (w ∷ ws) a (inl here) steady = sym (ap (λ s. s.result) (over_local limit now tree w steady.0)) ∙ here
   once_now (w ∷ ws) a (inr later) steady = once_now ws a later steady.1
 
-  pub asked_now : (shown : Option Answer) (since : List (ℕ → Option ℕ)) → ((a : Answer) → shown ≡ Some a → Once (λ w. (over limit w tree).result ≡ Ok a) since) → Steady now since (over limit now tree).list → (asked shown (over limit now tree)).result ≡ (over limit now tree).result
+  pub asked_now : (shown : Option Answer) (since : List (ℕ → Option ℕ)) → ((a : Answer) → shown ≡ Some a → Once (λ w. (over limit w tree).result ≡ Ok a) since) → Steady now since (over limit now tree).trace → (asked shown (over limit now tree)).result ≡ (over limit now tree).result
   asked_now None since once steady = refl
   asked_now (Some a) since once steady = sym (once_now since a (once a refl) steady)

@@ -3,7 +3,7 @@ use Rattle.std.proofs.Common.{◌≡◌, ℕ, ◌+◌, Bool, true, false, cond, 
 use borrow.Author.Tests.{clash}
 use Rattle.arch.specs.declared.call.Access.{Access}
 use Rattle.arch.specs.declared.condition.Condition.{Condition}
-use Rattle.arch.specs.Walks.{Seen, Stepped, written}
+use Rattle.arch.specs.Walks.{Traced, Stepped, written}
 use Rattle.lookup.specs.Checks.{checked}
 use Rattle.lookup.specs.declared.access.AccessKey.{AccessKey}
 use Rattle.lookup.specs.declared.access.AccessAnswer.{AccessAnswer}
@@ -11,7 +11,7 @@ use Rattle.machine.specs.Registers.{Registers}
 use Rattle.machine.specs.Translation.{unless, held_in, access_key, looked_up, space_of_token, token_asks, low_protected, space_asks, page_asked}
 
 module _ {places : List ℕ} {used : ℕ} where
-  pub quiet_step : {A : Type 0} (s : Seen A) {r : Result A Condition} → r ≡ s.result → s.list ≡ [] → Stepped 0 s places used places used r
+  pub quiet_step : {A : Type 0} (s : Traced A) {r : Result A Condition} → r ≡ s.result → s.trace ≡ [] → Stepped 0 s places used places used r
   quiet_step s e none =
       record {
         result = e;
@@ -40,7 +40,7 @@ asked_by_space r access a {space} c t is ok same =
 
 -- a token above 1 is looked up
 module _ (r : Registers) (alet : ℕ) (not_primary : alet ≡ 0 → ⊥) (not_secondary : alet ≡ 1 → ⊥) where
-  pub token_looked_up : (access_asks : AccessKey → Seen AccessAnswer) → looked_up access_asks (access_key r alet) ≡ space_of_token r access_asks alet
+  pub token_looked_up : (access_asks : AccessKey → Traced AccessAnswer) → looked_up access_asks (access_key r alet) ≡ space_of_token r access_asks alet
   token_looked_up access_asks =
       sym (ap (λ b. cond b (held_in r.control.c1) (cond (eqb alet 1) (held_in r.control.c7) (looked_up access_asks (access_key r alet)))) (ne_eqb _ _ not_primary)
       ∙ ap (λ b. cond b (held_in r.control.c7) (looked_up access_asks (access_key r alet))) (ne_eqb _ _ not_secondary))

@@ -5,7 +5,7 @@ use Rattle.arch.specs.declared.call.Access.{Access}
 use Rattle.arch.specs.declared.condition.Condition.{Condition}
 use Rattle.arch.specs.declared.condition.Condition.TheVariants.{BadNumber, Unaligned, ShortList}
 use Rattle.arch.specs.Order.{Row, row, first_of}
-use Rattle.arch.specs.Walks.{Seen, refused, Stepped, onward, then, written}
+use Rattle.arch.specs.Walks.{Traced, refused, Stepped, onward, then, written}
 use Rattle.storage.specs.Views.{View}
 use Rattle.storage.specs.Prefixes.{lawful_prefix}
 use Rattle.lookup.specs.declared.access.AccessKey.{AccessKey}
@@ -25,7 +25,7 @@ lawful_true p even low = ap₂ (λ x y. x && y) (eq-eqb _ _ even) (lt-ltb _ _ lo
 pub prefix_set : {new : ℕ} (old p : ℕ) → p % 8192 ≡ 0 → p < 2 ^ 31 → new ≡ cond (lawful_prefix p) p old → new ≡ p
 prefix_set old p even low e = e ∙ ap (λ b. cond b p old) (lawful_true p even low)
 
-module _ (r : Registers) (access_asks : AccessKey → Seen AccessAnswer) (page_asks : PageKey → Seen PageAnswer) (view : View) (access : Access) (register address places : ℕ) where
+module _ (r : Registers) (access_asks : AccessKey → Traced AccessAnswer) (page_asks : PageKey → Traced PageAnswer) (view : View) (access : Access) (register address places : ℕ) where
   -- neither refusal applies: a translation is its reach
   pub not_refused : register ≤ 15 → 12 ≤ places → translation r access_asks page_asks view access register address places ≡ reach r access_asks page_asks view access register (cut r.size address)
   not_refused small room =
@@ -33,33 +33,33 @@ module _ (r : Registers) (access_asks : AccessKey → Seen AccessAnswer) (page_a
       ∙ ap (λ b. then (unless ShortList b) (λ _. reach r access_asks page_asks view access register (cut r.size address))) (le-ltb _ _ room)
 
 -- from a step with no place used before to the whole call
-pub counted : {A : Type 0} {s t : Seen A} {before after : List ℕ} {to : ℕ} {r : Result A Condition} → t ≡ s → Stepped 12 s before 0 after to r → Counts t before after r to
+pub counted : {A : Type 0} {s t : Traced A} {before after : List ℕ} {to : ℕ} {r : Result A Condition} → t ≡ s → Stepped 12 s before 0 after to r → Counts t before after r to
 counted {A} {s} {t} {before} {after} {to} {r} same p =
     subst (λ o. Counts o before after r to) (sym same)
     (record { result = p.result; count = p.used ∙ zero-add _; places = p.places; few = p.few })
 
 -- a call that goes on from a counted one and lists nothing more
-quiet_onward : {A B : Type 0} (l : List ℕ) (r : Result A Condition) (k : A → Seen B) → ((a : A) → (k a).list ≡ []) → (onward l r k).list ≡ l
+quiet_onward : {A B : Type 0} (l : List ℕ) (r : Result A Condition) (k : A → Traced B) → ((a : A) → (k a).trace ≡ []) → (onward l r k).trace ≡ l
 quiet_onward l (Ok a) k none = ap (λ m. l ++ m) (none a) ∙ append-nil l
 quiet_onward l (Err c) k none = refl
 
-pub counts_then : {A B : Type 0} {s : Seen A} {before after : List ℕ} {n : ℕ} {r : Result A Condition} (k : A → Seen B) → ((a : A) → (k a).list ≡ []) → Counts s before after r n → Counts (then s k) before after (onward [] r k).result n
+pub counts_then : {A B : Type 0} {s : Traced A} {before after : List ℕ} {n : ℕ} {r : Result A Condition} (k : A → Traced B) → ((a : A) → (k a).trace ≡ []) → Counts s before after r n → Counts (then s k) before after (onward [] r k).result n
 counts_then {A} {B} {s} {before} {after} {n} {r} k none p =
-    let same = quiet_onward s.list s.result k none in
+    let same = quiet_onward s.trace s.result k none in
     record {
-      result = onward_list [] s.list r k ∙ ap (λ x. (onward s.list x k).result) p.result;
+      result = onward_list [] s.trace r k ∙ ap (λ x. (onward s.trace x k).result) p.result;
       count = p.count ∙ ap length (sym same);
       places = p.places ∙ ap (written before 0) (sym same);
       few = subst (λ l. length l ≤ 12) (sym same) p.few;
     }
   where
-    onward_list : (l m : List ℕ) (r : Result A Condition) (k : A → Seen B) → (onward l r k).result ≡ (onward m r k).result
+    onward_list : (l m : List ℕ) (r : Result A Condition) (k : A → Traced B) → (onward l r k).result ≡ (onward m r k).result
     onward_list l m (Ok a) k = refl
     onward_list l m (Err c) k = refl
 
 -- no refusal of a fetch or a store applies
 module _ (register address places : ℕ) (small : register ≤ 15) (even : address % 8 ≡ 0) (room : 12 ≤ places) where
-  pub passes : {B : Type 0} (s : Seen B) → then (unless BadNumber (ltb 15 register)) (λ _. then (unless Unaligned (not (eqb (address % 8) 0))) (λ _. then (unless ShortList (ltb places 12)) (λ _. s))) ≡ s
+  pub passes : {B : Type 0} (s : Traced B) → then (unless BadNumber (ltb 15 register)) (λ _. then (unless Unaligned (not (eqb (address % 8) 0))) (λ _. then (unless ShortList (ltb places 12)) (λ _. s))) ≡ s
   passes s =
       ap (λ b. then (unless BadNumber b) (λ _. then (unless Unaligned (not (eqb (address % 8) 0))) (λ _. then (unless ShortList (ltb places 12)) (λ _. s)))) (le-ltb _ _ small)
       ∙ ap (λ b. then (unless Unaligned (not b)) (λ _. then (unless ShortList (ltb places 12)) (λ _. s))) (eq-eqb _ _ even)
@@ -77,16 +77,16 @@ module _ (register address places : ℕ) (small : register ≤ 15) (even : addre
       ap (λ b. first_of (row BadNumber (ltb 15 register) ∷ row Unaligned (not b) ∷ row ShortList (ltb places 12) ∷ rows)) (sym (eq-eqb _ _ even))
 
 -- a fetch or a store that is answered was not refused
-pub answered_unrefused : {A : Type 0} (p q u : Bool) (s : Seen A) {x : A} → Ok x ≡ (then (unless BadNumber p) (λ _. then (unless Unaligned q) (λ _. then (unless ShortList u) (λ _. s)))).result → (p || (q || u)) ≡ false
+pub answered_unrefused : {A : Type 0} (p q u : Bool) (s : Traced A) {x : A} → Ok x ≡ (then (unless BadNumber p) (λ _. then (unless Unaligned q) (λ _. then (unless ShortList u) (λ _. s)))).result → (p || (q || u)) ≡ false
 answered_unrefused true q u s e = absurd (clash (sym (ap is_ok e)))
 answered_unrefused false true u s e = absurd (clash (sym (ap is_ok e)))
 answered_unrefused false false true s e = absurd (clash (sym (ap is_ok e)))
 answered_unrefused false false false s e = refl
 
 -- the same count of another term for the result
-pub counts_as : {A : Type 0} {s : Seen A} {before after : List ℕ} {r q : Result A Condition} {n : ℕ} → r ≡ q → Counts s before after q n → Counts s before after r n
+pub counts_as : {A : Type 0} {s : Traced A} {before after : List ℕ} {r q : Result A Condition} {n : ℕ} → r ≡ q → Counts s before after q n → Counts s before after r n
 counts_as e p = record { result = e ∙ p.result; count = p.count; places = p.places; few = p.few }
 
 -- a call that is refused at once
-pub counts_refused : {A : Type 0} {s : Seen A} (c : Condition) (places : List ℕ) {x : Counted A} → x ≡ record { result = Err c; count = 0 } → s ≡ refused c → Counts s places places x.result x.count
+pub counts_refused : {A : Type 0} {s : Traced A} (c : Condition) (places : List ℕ) {x : Counted A} → x ≡ record { result = Err c; count = 0 } → s ≡ refused c → Counts s places places x.result x.count
 counts_refused c places {x} is same = subst₂ (λ o y. Counts o places places y.result y.count) (sym same) (sym is) (record { result = refl; count = refl; places = refl; few = omega arith })

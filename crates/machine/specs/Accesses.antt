@@ -4,7 +4,7 @@ use Rattle.arch.specs.declared.call.Access.{Access}
 use Rattle.arch.specs.declared.call.Access.TheVariants.{Fetch, Store}
 use Rattle.arch.specs.declared.condition.Condition.{Condition}
 use Rattle.arch.specs.declared.condition.Condition.TheVariants.{BadNumber, Unaligned, ShortList, Addressing}
-use Rattle.arch.specs.Walks.{Seen, then}
+use Rattle.arch.specs.Walks.{Traced, then}
 use Rattle.storage.specs.Views.{View}
 use Rattle.lookup.specs.declared.access.AccessKey.{AccessKey}
 use Rattle.lookup.specs.declared.access.AccessAnswer.{AccessAnswer}
@@ -15,27 +15,27 @@ use Rattle.machine.specs.Registers.{Registers}
 use Rattle.machine.specs.Translation.{unless, translation}
 
 -- a result with no address asked for
-abbrev pub plainly : {A : Type 0} → Result A Condition → Seen A
-plainly r = record { result = r; list = [] }
+abbrev pub plainly : {A : Type 0} → Result A Condition → Traced A
+plainly r = record { result = r; trace = [] }
 
 -- the doubleword at a real address
 abbrev pub value_there : Option ℕ → Result ℕ Condition
 value_there None = Err Addressing
 value_there (Some x) = Ok x
 
-module _ (r : Registers) (access_asks : AccessKey → Seen AccessAnswer) (page_asks : PageKey → Seen PageAnswer) (view : View) (register address places : ℕ) where
+module _ (r : Registers) (access_asks : AccessKey → Traced AccessAnswer) (page_asks : PageKey → Traced PageAnswer) (view : View) (register address places : ℕ) where
   -- the translation of an access; before it, a number outside what is named is refused, then no multiple of 8,
   -- then too few places
-  abbrev pub accessing : Access → Seen ℕ
+  abbrev pub accessing : Access → Traced ℕ
   accessing access =
       then (unless BadNumber (nat_lt 15 register)) (λ _. then (unless Unaligned (not (address % 8 == 0)))
       (λ _. then (unless ShortList (nat_lt places 12))
       (λ _. translation r access_asks page_asks view access register address places)))
 
-  abbrev pub fetching : Seen ℕ
+  abbrev pub fetching : Traced ℕ
   fetching = then (accessing Fetch) (λ real. plainly (value_there (view.word real)))
 
-  abbrev pub storing : Seen (Unit {0})
+  abbrev pub storing : Traced (Unit {0})
   storing = then (accessing Store) (λ real. plainly (put_answer view real))
 
 -- refused before anything is asked

@@ -4,18 +4,18 @@ use Rattle.arch.specs.declared.call.SourceName.{SourceName}
 use Rattle.arch.specs.declared.call.SourceName.TheVariants.{AccessRegister, Page}
 use Rattle.arch.specs.declared.condition.Condition.{Condition}
 use Rattle.arch.specs.declared.condition.Condition.TheVariants.{BadNumber, Unaligned}
-use Rattle.arch.specs.Walks.{Seen, written}
+use Rattle.arch.specs.Walks.{Traced, written}
 use Rattle.storage.specs.Views.{View, after_put, put_result}
 use Rattle.storage.specs.Prefixes.{exchange}
 use Rattle.machine.specs.declared.registers.Control.{Control}
 use Rattle.machine.specs.Registers.{Registers}
 
 -- a call that lists addresses gave this result and count, and wrote the addresses to the first places
-pub record Counts {A : Type 0} (s : Seen A) (before after : List ℕ) (r : Result A Condition) (n : ℕ) : Type 0 where
+pub record Counts {A : Type 0} (s : Traced A) (before after : List ℕ) (r : Result A Condition) (n : ℕ) : Type 0 where
   pub result : r ≡ s.result
-  pub count : n ≡ length s.list
-  pub places : after ≡ written before 0 s.list
-  pub few : length s.list ≤ 12
+  pub count : n ≡ length s.trace
+  pub places : after ≡ written before 0 s.trace
+  pub few : length s.trace ≤ 12
 
 -- a number outside what is named, or too few places
 abbrev pub refuses_translation : ℕ → ℕ → Bool

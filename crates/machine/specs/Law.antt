@@ -5,7 +5,7 @@ use Rattle.arch.specs.declared.call.Access.{Access}
 use Rattle.arch.specs.declared.call.SourceName.TheVariants.{AccessRegister, Page}
 use Rattle.arch.specs.declared.condition.Condition.{Condition}
 use Rattle.arch.specs.declared.condition.Condition.TheVariants.{BadNumber, ShortList, LowAddress}
-use Rattle.arch.specs.Walks.{Seen, then, Agree}
+use Rattle.arch.specs.Walks.{Traced, then, Agree}
 use Rattle.storage.specs.Views.{View, block_of}
 use Rattle.lookup.specs.declared.access.AccessKey.{AccessKey}
 use Rattle.lookup.specs.declared.access.AccessAnswer.{AccessAnswer}
@@ -67,7 +67,7 @@ Came s shown c o = o ≡ outcome_of s.registers shown s.view c
 
 -- FRESH ONCE. Every answer that a source shows is the one fresh for its key at some moment since its latest purge.
 -- (Where it shows none, it gives the fresh result of the present moment, an exception too: so `access_asks` says.)
-abbrev pub FreshOnce : {Key Answer : Type 0} → (Key → Type 0) → ((ℕ → Option ℕ) → Key → Seen Answer) → List (ℕ → Option ℕ) → (Key → Option Answer) → Type 0
+abbrev pub FreshOnce : {Key Answer : Type 0} → (Key → Type 0) → ((ℕ → Option ℕ) → Key → Traced Answer) → List (ℕ → Option ℕ) → (Key → Option Answer) → Type 0
 FreshOnce {Key} {Answer} fits fresh since shows = (k : Key) (a : Answer) → fits k → shows k ≡ Some a → Once (λ w. (fresh w k).result ≡ Ok a) since
 
 -- these doublewords have held one value at all of these moments
@@ -78,8 +78,8 @@ Steady now since list = AllByRecursion (λ w. Agree now w list) since
 -- place they stand
 abbrev pub UnchangedFor : Registers → (ℕ → Option ℕ) → List (ℕ → Option ℕ) → List (ℕ → Option ℕ) → Option Translating → Type 0
 UnchangedFor r now arts_earlier pages_earlier t =
-    ((k : AccessKey) → art_asked r t ≡ Some k → Steady now (now ∷ arts_earlier) (access_fresh now k).list)
-    × ((k : PageKey) → page_asked_by r (access_fresh now) t ≡ Some k → Steady now (now ∷ pages_earlier) (page_fresh now k).list)
+    ((k : AccessKey) → art_asked r t ≡ Some k → Steady now (now ∷ arts_earlier) (access_fresh now k).trace)
+    × ((k : PageKey) → page_asked_by r (access_fresh now) t ≡ Some k → Steady now (now ∷ pages_earlier) (page_fresh now k).trace)
 
 -- the same of the translation that a call makes, if any
 abbrev pub Unchanged : State → Request → Type 0
@@ -110,8 +110,8 @@ pub record KeepsLaw (s : State) (shown : Shown) (c : Request) (o : Outcome) : Ty
   pub now : FreshNow s shown c
 
 -- A run over two sources of any make, by what they show and by what an ask or a purge does to them.
-module _ {A P : Type 0} (arts_show : A → AccessKey → Option AccessAnswer) (arts_move : A → (AccessKey → Seen AccessAnswer) → AccessKey → A → Type 0) (arts_clear : A → A → Type 0)
-    (pages_show : P → PageKey → Option PageAnswer) (pages_move : P → (PageKey → Seen PageAnswer) → PageKey → P → Type 0) (pages_clear : P → P → Type 0) where
+module _ {A P : Type 0} (arts_show : A → AccessKey → Option AccessAnswer) (arts_move : A → (AccessKey → Traced AccessAnswer) → AccessKey → A → Type 0) (arts_clear : A → A → Type 0)
+    (pages_show : P → PageKey → Option PageAnswer) (pages_move : P → (PageKey → Traced PageAnswer) → PageKey → P → Type 0) (pages_clear : P → P → Type 0) where
   abbrev pub shown_by : A → P → Shown
   shown_by a p = record { arts = arts_show a; pages = pages_show p }
 
@@ -147,10 +147,10 @@ pub record SeenBy : Type 0 where
   pub view : View
 
 module _ (r : Registers) (m : SeenBy) (access : Access) (register address places : ℕ) where
-  abbrev pub translated : Seen ℕ
+  abbrev pub translated : Traced ℕ
   translated = translation r (access_asks m.arts m.view.word) (page_asks m.pages m.view.word) m.view access register address places
 
-  abbrev pub space_seen : Seen (Option AccessAnswer)
+  abbrev pub space_seen : Traced (Option AccessAnswer)
   space_seen = space_by_mode r.mode r (access_asks m.arts m.view.word) register
 
   -- the keys that it asks for: none where it is refused
@@ -161,7 +161,7 @@ module _ (r : Registers) (m : SeenBy) (access : Access) (register address places
   page_key_seen = cond (refuses_translation register places) None (page_asked r access (cut r.size address) space_seen.result)
 
   -- the real address, before the doubleword there is looked at
-  abbrev pub real_seen : Seen ℕ
+  abbrev pub real_seen : Traced ℕ
   real_seen =
       then (unless BadNumber (nat_lt 15 register)) (λ _. then (unless ShortList (nat_lt places 12))
       (λ _. then space_seen (λ space. then (unless LowAddress (low_protected r access (cut r.size address)))
@@ -172,7 +172,7 @@ module _ (r : Registers) (m : SeenBy) (access : Access) (register address places
 pub record Alike (r : Registers) (m n : SeenBy) (access : Access) (register address places : ℕ) : Type 0 where
   pub arts : (k : AccessKey) → art_key r m access register address places ≡ Some k → m.arts k ≡ n.arts k
   pub pages : (k : PageKey) → page_key_seen r m access register address places ≡ Some k → m.pages k ≡ n.pages k
-  pub listed : Agree m.view.word n.view.word (translated r m access register address places).list
+  pub listed : Agree m.view.word n.view.word (translated r m access register address places).trace
   pub present : (real : ℕ) → (real_seen r m access register address places).result ≡ Ok real → is_some (m.view.word (real / 8 * 8)) ≡ is_some (n.view.word (real / 8 * 8))
   pub key : (real : ℕ) → (real_seen r m access register address places).result ≡ Ok real → m.view.key (block_of real) ≡ n.view.key (block_of real)
 
@@ -180,7 +180,7 @@ pub record Alike (r : Registers) (m n : SeenBy) (access : Access) (register addr
 abbrev pub AnswersAlike : Registers → SeenBy → SeenBy → Access → ℕ → ℕ → ℕ → Type 0
 AnswersAlike r m n access register address places =
     (translated r n access register address places ≡ translated r m access register address places)
-    × (length (translated r m access register address places).list ≤ 12)
+    × (length (translated r m access register address places).trace ≤ 12)
 
 -- of any two machines, for any translation
 abbrev pub NothingElseMatters : Type 0
@@ -188,7 +188,7 @@ NothingElseMatters = (r : Registers) (m n : SeenBy) (access : Access) (register 
 
 -- CALL BY CALL. Where a machine and its sources stand as in such a state: every pair held was fresh at one of the
 -- moments since the latest purge.
-abbrev pub Sound : {Key Answer : Type 0} → (Key → Type 0) → ((ℕ → Option ℕ) → Key → Seen Answer) → List (ℕ → Option ℕ) → (Key → Answer → Type 0) → Type 0
+abbrev pub Sound : {Key Answer : Type 0} → (Key → Type 0) → ((ℕ → Option ℕ) → Key → Traced Answer) → List (ℕ → Option ℕ) → (Key → Answer → Type 0) → Type 0
 Sound {Key} {Answer} fits fresh since holds = (k : Key) (a : Answer) → fits k → holds k a → Once (λ w. (fresh w k).result ≡ Ok a) since
 
 -- access registers have 32 bits

@@ -6,7 +6,7 @@ use Rattle.arch.specs.declared.condition.Condition.TheVariants.{BadNumber, Unali
 use Rattle.storage.specs.Views.{View, block_of}
 use Rattle.lookup.specs.declared.access.AccessKey.{AccessKey}
 use Rattle.lookup.specs.declared.access.AccessAnswer.{AccessAnswer}
-use Rattle.lookup.specs.Orders.{access_rows, access_found, paging_rows, paging_found}
+use Rattle.lookup.specs.Orders.{access_conditions, access_finds, page_conditions, page_finds}
 use Rattle.machine.specs.Registers.{Registers}
 use Rattle.machine.specs.Translation.{is_store, cut, access_key, mode_asks, low_protected, page_key, real_address, key_protected}
 
@@ -16,7 +16,7 @@ plain asce = Some (record { asce = asce; fetch_only = false })
 
 -- the address space that a translation goes through, none with DAT off
 abbrev pub token_space : (ℕ → Option ℕ) → Registers → ℕ → Option AccessAnswer
-token_space word r alet = cond (alet == 0) (plain r.control.c1) (cond (alet == 1) (plain r.control.c7) (Some (access_found word (access_key r alet))))
+token_space word r alet = cond (alet == 0) (plain r.control.c1) (cond (alet == 1) (plain r.control.c7) (Some (access_finds word (access_key r alet))))
 
 abbrev pub register_space : (ℕ → Option ℕ) → Registers → ℕ → Option AccessAnswer
 register_space word r register = cond (register == 0) (plain r.control.c1) (token_space word r (slice_index r.access register))
@@ -31,20 +31,20 @@ mode_space word (suc (suc (suc (suc n)))) r register = plain r.control.c13
 -- the rows of the access-register lookup, where one is made
 abbrev pub lookup_rows : (ℕ → Option ℕ) → Option AccessKey → List Row
 lookup_rows word None = []
-lookup_rows word (Some k) = access_rows word k
+lookup_rows word (Some k) = access_conditions word k
 
 -- the rows of the page lookup and of the protections by entry and by page, where there is a space
 abbrev pub space_rows : (ℕ → Option ℕ) → Access → Option AccessAnswer → ℕ → List Row
 space_rows word access None a = []
 space_rows word access (Some space) a =
-    paging_rows word (page_key space.asce a)
+    page_conditions word (page_key space.asce a)
     ++ (row AccessList (is_store access && space.fetch_only)
-    ∷ row Page (is_store access && (paging_found word (page_key space.asce a)).protect)
+    ∷ row Page (is_store access && (page_finds word (page_key space.asce a)).protect)
     ∷ [])
 
 abbrev pub space_real : (ℕ → Option ℕ) → Option AccessAnswer → ℕ → ℕ
 space_real word None a = a
-space_real word (Some space) a = real_address (paging_found word (page_key space.asce a)).frame a
+space_real word (Some space) a = real_address (page_finds word (page_key space.asce a)).frame a
 
 -- the doubleword reached, and its block's key
 abbrev pub reach_rows : Registers → View → Access → ℕ → List Row

@@ -8,7 +8,7 @@ use Rattle.arch.specs.declared.call.Call.TheVariants as call
 use Rattle.arch.specs.declared.call.SourceName.{SourceName}
 use Rattle.arch.specs.declared.call.SourceName.TheVariants.{AccessRegister, Page}
 use Rattle.arch.specs.declared.condition.Condition.TheVariants.{BadPrefix}
-use Rattle.arch.specs.Walks.{Seen}
+use Rattle.arch.specs.Walks.{Traced}
 use Rattle.storage.specs.Views.{View}
 use Rattle.storage.specs.Prefixes.{lawful_prefix, prefixed}
 use Rattle.lookup.specs.declared.access.AccessKey.{AccessKey}
@@ -40,8 +40,8 @@ bare = record { arts = λ _. None; pages = λ _. None }
 abbrev pub real_view : Registers → View → View
 real_view r v = prefixed r.prefix v
 
-abbrev pub counted_of : {A : Type 0} → Seen A → Counted A
-counted_of s = record { result = s.result; count = length s.list }
+abbrev pub counted_of : {A : Type 0} → Traced A → Counted A
+counted_of s = record { result = s.result; count = length s.trace }
 
 -- a call that lists addresses has this many places for them
 abbrev pub places : ℕ
@@ -49,10 +49,10 @@ places = 12
 
 module _ (r : Registers) (shown : Shown) (v : View) where
   -- what the sources give, each for a key
-  abbrev pub arts_give : AccessKey → Seen AccessAnswer
+  abbrev pub arts_give : AccessKey → Traced AccessAnswer
   arts_give = access_asks shown.arts (real_view r v).word
 
-  abbrev pub pages_give : PageKey → Seen PageAnswer
+  abbrev pub pages_give : PageKey → Traced PageAnswer
   pages_give = page_asks shown.pages (real_view r v).word
 
   -- what comes of a call that a line of a run text makes
@@ -129,7 +129,7 @@ art_asked r None = None
 art_asked r (Some t) = cond t.refused None (mode_asks r.mode r t.register)
 
 -- and the page source
-abbrev pub page_asked_by : Registers → (AccessKey → Seen AccessAnswer) → Option Translating → Option PageKey
+abbrev pub page_asked_by : Registers → (AccessKey → Traced AccessAnswer) → Option Translating → Option PageKey
 page_asked_by r arts None = None
 page_asked_by r arts (Some t) = cond t.refused None (page_asked r t.access (cut r.size t.address) (space_by_mode r.mode r arts t.register).result)
 

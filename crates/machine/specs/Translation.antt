@@ -1,7 +1,7 @@
 -- Translation: what comes of it, and which addresses it asks for, given what the two sources answer.
 use Rattle.std.specs.Prelude.{ℕ, zero, suc, ◌+◌, ◌*◌, ◌/◌, ◌%◌, ◌^◌, Bool, true, false, cond, not, ◌&&◌, ◌||◌, is_some, Some, None, Ok, Err, Option, Result, ◌==◌, nat_lt, slice_index}
 use Rattle.arch.specs.Bits.{bits, bit}
-use Rattle.arch.specs.Walks.{Seen, given, refused, then}
+use Rattle.arch.specs.Walks.{Traced, given, refused, then}
 use Rattle.arch.specs.declared.call.Access.{Access}
 use Rattle.arch.specs.declared.call.Access.TheVariants.{Fetch, Store}
 use Rattle.arch.specs.declared.condition.Condition.{Condition}
@@ -15,14 +15,14 @@ use Rattle.machine.specs.Registers.{Registers}
 
 infixl 20 ◌>>=◌
 infixl 20 ◌>>◌
-abbrev pub ◌>>=◌ : {A B : Type 0} → Seen A → (A → Seen B) → Seen B
+abbrev pub ◌>>=◌ : {A B : Type 0} → Traced A → (A → Traced B) → Traced B
 ◌>>=◌ s k = then s k
 
-abbrev pub ◌>>◌ : {A B : Type 0} → Seen A → Seen B → Seen B
+abbrev pub ◌>>◌ : {A B : Type 0} → Traced A → Traced B → Traced B
 ◌>>◌ s next = then s (λ _. next)
 
 -- a condition that is met where the test says so
-abbrev pub unless : Condition → Bool → Seen (Unit {0})
+abbrev pub unless : Condition → Bool → Traced (Unit {0})
 unless c applies = cond applies (refused c) (given tt)
 
 abbrev pub is_store : Access → Bool
@@ -44,15 +44,15 @@ abbrev pub access_key : Registers → ℕ → AccessKey
 access_key r alet = record { alet = alet; eax = bits 32 47 r.control.c8; designation = designation_address r alet }
 
 -- a space whose element a control register holds
-abbrev pub held_in : ℕ → Seen (Option AccessAnswer)
+abbrev pub held_in : ℕ → Traced (Option AccessAnswer)
 held_in asce = given (Some (record { asce = asce; fetch_only = false }))
 
 -- a space by lookup
-abbrev pub looked_up : (AccessKey → Seen AccessAnswer) → AccessKey → Seen (Option AccessAnswer)
+abbrev pub looked_up : (AccessKey → Traced AccessAnswer) → AccessKey → Traced (Option AccessAnswer)
 looked_up access_asks k = then (access_asks k) (λ a. given (Some a))
 
 -- the space of a token: 0 the primary, 1 the secondary, any other by lookup
-abbrev pub space_of_token : Registers → (AccessKey → Seen AccessAnswer) → ℕ → Seen (Option AccessAnswer)
+abbrev pub space_of_token : Registers → (AccessKey → Traced AccessAnswer) → ℕ → Traced (Option AccessAnswer)
 space_of_token r access_asks alet = cond (alet == 0) (held_in r.control.c1) (cond (alet == 1) (held_in r.control.c7) (looked_up access_asks (access_key r alet)))
 
 -- the key that a token asks the access-register source for
@@ -60,14 +60,14 @@ abbrev pub token_asks : Registers → ℕ → Option AccessKey
 token_asks r alet = cond (alet == 0) None (cond (alet == 1) None (Some (access_key r alet)))
 
 -- access register 0 stands for the primary space, whatever it holds
-abbrev pub space_of_register : Registers → (AccessKey → Seen AccessAnswer) → ℕ → Seen (Option AccessAnswer)
+abbrev pub space_of_register : Registers → (AccessKey → Traced AccessAnswer) → ℕ → Traced (Option AccessAnswer)
 space_of_register r access_asks register = cond (register == 0) (held_in r.control.c1) (space_of_token r access_asks (slice_index r.access register))
 
 abbrev pub register_asks : Registers → ℕ → Option AccessKey
 register_asks r register = cond (register == 0) None (token_asks r (slice_index r.access register))
 
 -- the address space by mode, none with DAT off
-abbrev pub space_by_mode : ℕ → Registers → (AccessKey → Seen AccessAnswer) → ℕ → Seen (Option AccessAnswer)
+abbrev pub space_by_mode : ℕ → Registers → (AccessKey → Traced AccessAnswer) → ℕ → Traced (Option AccessAnswer)
 space_by_mode zero r access_asks register = given None
 space_by_mode (suc zero) r access_asks register = held_in r.control.c1
 space_by_mode (suc (suc zero)) r access_asks register = space_of_register r access_asks register
@@ -96,18 +96,18 @@ abbrev pub page_key : ℕ → ℕ → PageKey
 page_key asce a = record { asce = asce; page = a / 2 ^ 12 }
 
 -- from what a page lookup found to the real address
-abbrev pub framed : Access → AccessAnswer → ℕ → PageAnswer → Seen ℕ
+abbrev pub framed : Access → AccessAnswer → ℕ → PageAnswer → Traced ℕ
 framed access space a page = do
   unless AccessList (is_store access && space.fetch_only)
   unless Page (is_store access && page.protect)
   given (real_address page.frame a)
 
 -- through the pages of a space
-abbrev pub by_page : (PageKey → Seen PageAnswer) → Access → AccessAnswer → ℕ → Seen ℕ
+abbrev pub by_page : (PageKey → Traced PageAnswer) → Access → AccessAnswer → ℕ → Traced ℕ
 by_page page_asks access space a = then (page_asks (page_key space.asce a)) (framed access space a)
 
 -- with DAT off the address is real
-abbrev pub real_of : (PageKey → Seen PageAnswer) → Access → Option AccessAnswer → ℕ → Seen ℕ
+abbrev pub real_of : (PageKey → Traced PageAnswer) → Access → Option AccessAnswer → ℕ → Traced ℕ
 real_of page_asks access None a = given a
 real_of page_asks access (Some space) a = by_page page_asks access space a
 
@@ -127,13 +127,13 @@ key_protected key access None = false
 key_protected key access (Some k) = not (key == 0) && (not (key == k / 2) && (is_store access || k % 2 == 1))
 
 -- the doubleword that holds the real address
-abbrev pub reached : Registers → View → Access → ℕ → Seen ℕ
+abbrev pub reached : Registers → View → Access → ℕ → Traced ℕ
 reached r view access real = do
   unless Addressing (not (is_some (view.word (real / 8 * 8))))
   unless Key (key_protected r.key access (view.key (block_of real)))
   given real
 
-abbrev pub reach : Registers → (AccessKey → Seen AccessAnswer) → (PageKey → Seen PageAnswer) → View → Access → ℕ → ℕ → Seen ℕ
+abbrev pub reach : Registers → (AccessKey → Traced AccessAnswer) → (PageKey → Traced PageAnswer) → View → Access → ℕ → ℕ → Traced ℕ
 reach r access_asks page_asks view access register a = do
   space ← space_by_mode r.mode r access_asks register
   unless LowAddress (low_protected r access a)
@@ -141,7 +141,7 @@ reach r access_asks page_asks view access register a = do
   reached r view access real
 
 -- the whole of a translation; its first two conditions are refusals, at which nothing is asked
-abbrev pub translation : Registers → (AccessKey → Seen AccessAnswer) → (PageKey → Seen PageAnswer) → View → Access → ℕ → ℕ → ℕ → Seen ℕ
+abbrev pub translation : Registers → (AccessKey → Traced AccessAnswer) → (PageKey → Traced PageAnswer) → View → Access → ℕ → ℕ → ℕ → Traced ℕ
 translation r access_asks page_asks view access register address places = do
   unless BadNumber (nat_lt 15 register)
   unless ShortList (nat_lt places 12)

@@ -1,7 +1,7 @@
 -- How far a run has come: the law of the calls made, and where machine, storage and sources stand.
 use Rattle.std.proofs.Common.{◌≡◌, ℕ, ◌+◌, ◌<◌, List, [], ◌∷◌, ◌++◌, length, get_or, take, drop, set, Option, sym, refl, ap, ◌∙◌, subst, subst₂, arith, length-take, drop-drop, drop-set-lt}
 use Rattle.std.proofs.lemmas.List.{take_more, take_more_set, take_all}
-use Rattle.arch.specs.Walks.{Seen}
+use Rattle.arch.specs.Walks.{Traced}
 use Rattle.storage.specs.Views.{View}
 use Rattle.lookup.specs.declared.access.AccessKey.{AccessKey}
 use Rattle.lookup.specs.declared.access.AccessAnswer.{AccessAnswer}
@@ -12,8 +12,8 @@ use Rattle.machine.specs.declared.request.Request.{Request}
 use Rattle.machine.specs.Registers.{Registers}
 use Rattle.machine.specs.Law.{State, Stands, KeepsLaw, start, next, shown_by, ArtsPass, PagesPass, Lawful, Ran}
 
-module _ {A P : Type 0} (arts_show : A → AccessKey → Option AccessAnswer) (arts_move : A → (AccessKey → Seen AccessAnswer) → AccessKey → A → Type 0) (arts_clear : A → A → Type 0)
-    (pages_show : P → PageKey → Option PageAnswer) (pages_move : P → (PageKey → Seen PageAnswer) → PageKey → P → Type 0) (pages_clear : P → P → Type 0) where
+module _ {A P : Type 0} (arts_show : A → AccessKey → Option AccessAnswer) (arts_move : A → (AccessKey → Traced AccessAnswer) → AccessKey → A → Type 0) (arts_clear : A → A → Type 0)
+    (pages_show : P → PageKey → Option PageAnswer) (pages_move : P → (PageKey → Traced PageAnswer) → PageKey → P → Type 0) (pages_clear : P → P → Type 0) where
   -- one call more at the end of a run
   abbrev Step : State → A → P → Request → Outcome → State → A → P → Type 0
   Step s a p c o s' b q = Lawful arts_show arts_move arts_clear pages_show pages_move pages_clear s a p (c ∷ []) (o ∷ []) s' b q

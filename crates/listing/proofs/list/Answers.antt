@@ -3,7 +3,7 @@ use Rattle.runtext.specs.Runs.{lent}
 use Rattle.std.proofs.lemmas.Result.{IfOk-from_err}
 use Rattle.listing.specs.Listings.{places, Lists}
 use Rattle.listing.proofs.Room.{room_for_all}
-use Rattle.listing.proofs.list.Goals as goal
+use Rattle.listing.proofs.trace.Goals as goal
 
 pub returns-in_err-words : goal.returns-in_err-words
 returns-in_err-words g c = record { lists = search (rules, IfOk-from_err); room = room_for_all }

@@ -2,6 +2,7 @@ use Rattle.std.proofs.Common.{refl}
 use Rattle.lookup.proofs.worked.worked_cases.Goals as goal
 
 pub returns : goal.returns
+unfolding Rattle.lookup.specs.Lookups.page_fresh Rattle.lookup.specs.Lookups.access_fresh
 returns c =
     record {
       count = refl;

@@ -1,14 +1,10 @@
 use Rattle.std.proofs.Common.{◌∙◌}
-use Rattle.arch.proofs.Walks.{over_local}
-use Rattle.lookup.specs.Pages.{page_limit, page_walk}
-use Rattle.lookup.proofs.InOrder.{paging_ordered}
+use Rattle.lookup.specs.Lookups.{page_fresh}
+use Rattle.lookup.proofs.InOrder.{page_ordered}
 use Rattle.lookup.proofs.kinds.PagingKind.walk.Goals as goal
 
 pub returns : goal.returns
+unfolding page_fresh
 returns g c =
     let word = (g.S.Storage.view c.args.storage.now).word in
-    record {
-      walked = c.walk.ensures;
-      order = c.walk.ensures.stepped.result ∙ (paging_ordered word c.args.key).ordered;
-      sees = over_local page_limit word (page_walk c.args.key);
-    }
+    record { gives = c.walk.ensures.gives; order = c.walk.ensures.gives.result ∙ (page_ordered word c.args.key).ordered }

@@ -8,7 +8,7 @@ use Rattle.lookup.specs.declared.page.PageAnswer.{PageAnswer}
 use Rattle.machine.specs.Runs.{Shown}
 use Rattle.machine.proofs.Fresh.{aligned_asked, accessed_fresh, answers_fresh, unasked_fresh}
 use Rattle.arch.specs.Order.{verdict}
-use Rattle.arch.specs.Walks.{Seen, then}
+use Rattle.arch.specs.Walks.{Traced, then}
 use Rattle.storage.specs.Prefixes.{prefixed}
 use Rattle.lookup.specs.Lookups.{access_fresh, page_fresh, access_asks, page_asks}
 use Rattle.lookup.specs.Sources.{Moved}
@@ -37,7 +37,7 @@ returns g c =
     let both = no_refusal_there c.args.register c.args.address n small even room ∙ sym free in
     let reaching = reaching_rows (registers m) view c.args.access c.args.register c.args.address n in
     let shown : Shown = record { arts = g.A.Source.shows c.args.arts.now; pages = g.P.Source.shows c.args.pages.now } in
-    let gives = subst (λ (s : Seen ℕ). Counts s c.args.list.now c.translate.new.list c.translate.result.result c.translate.result.count) (sym whole) told.gives in
+    let gives = subst (λ (s : Traced ℕ). Counts s c.args.list.now c.translate.new.trace c.translate.result.result c.translate.result.count) (sym whole) told.gives in
     record {
       gives = gives;
       registers = told.registers;
@@ -57,7 +57,7 @@ returns-then-register-gt15 g c =
     let n = length c.args.list.now in
     let view = prefixed m.prefix (g.S.Storage.view c.args.storage.now.beneath) in
     let shown : Shown = record { arts = g.A.Source.shows c.args.arts.now; pages = g.P.Source.shows c.args.pages.now } in
-    let by = λ (asks : AccessKey → Seen AccessAnswer) (finds : PageKey → Seen PageAnswer). ap (λ b. then (unless BadNumber b) (λ _. then (unless Unaligned (not (eqb (c.args.address % 8) 0))) (λ _. then (unless ShortList (ltb n 12)) (λ _. translation (registers m) asks finds view c.args.access c.args.register c.args.address n)))) (lt-ltb _ _ c.if-register-gt15.true) in
+    let by = λ (asks : AccessKey → Traced AccessAnswer) (finds : PageKey → Traced PageAnswer). ap (λ b. then (unless BadNumber b) (λ _. then (unless Unaligned (not (eqb (c.args.address % 8) 0))) (λ _. then (unless ShortList (ltb n 12)) (λ _. translation (registers m) asks finds view c.args.access c.args.register c.args.address n)))) (lt-ltb _ _ c.if-register-gt15.true) in
     record {
       gives = counts_refused BadNumber c.args.list.now c.refused.ensures (by (access_asks shown.arts view.word) (page_asks shown.pages view.word));
       registers = refl;
@@ -77,7 +77,7 @@ returns-then-address-ne0 g c =
     let n = length c.args.list.now in
     let view = prefixed m.prefix (g.S.Storage.view c.args.storage.now.beneath) in
     let shown : Shown = record { arts = g.A.Source.shows c.args.arts.now; pages = g.P.Source.shows c.args.pages.now } in
-    let by = λ (asks : AccessKey → Seen AccessAnswer) (finds : PageKey → Seen PageAnswer). ap (λ b. then (unless BadNumber b) (λ _. then (unless Unaligned (not (eqb (c.args.address % 8) 0))) (λ _. then (unless ShortList (ltb n 12)) (λ _. translation (registers m) asks finds view c.args.access c.args.register c.args.address n)))) (le-ltb _ _ c.if-register-gt15.false) ∙ ap (λ b. then (unless Unaligned (not b)) (λ _. then (unless ShortList (ltb n 12)) (λ _. translation (registers m) asks finds view c.args.access c.args.register c.args.address n))) (ne_eqb _ _ c.if-address-ne0.true) in
+    let by = λ (asks : AccessKey → Traced AccessAnswer) (finds : PageKey → Traced PageAnswer). ap (λ b. then (unless BadNumber b) (λ _. then (unless Unaligned (not (eqb (c.args.address % 8) 0))) (λ _. then (unless ShortList (ltb n 12)) (λ _. translation (registers m) asks finds view c.args.access c.args.register c.args.address n)))) (le-ltb _ _ c.if-register-gt15.false) ∙ ap (λ b. then (unless Unaligned (not b)) (λ _. then (unless ShortList (ltb n 12)) (λ _. translation (registers m) asks finds view c.args.access c.args.register c.args.address n))) (ne_eqb _ _ c.if-address-ne0.true) in
     record {
       gives = counts_refused Unaligned c.args.list.now c.refused-then-address-ne0.ensures (by (access_asks shown.arts view.word) (page_asks shown.pages view.word));
       registers = refl;
@@ -97,7 +97,7 @@ returns-then-list-lt12 g c =
     let n = length c.args.list.now in
     let view = prefixed m.prefix (g.S.Storage.view c.args.storage.now.beneath) in
     let shown : Shown = record { arts = g.A.Source.shows c.args.arts.now; pages = g.P.Source.shows c.args.pages.now } in
-    let by = λ (asks : AccessKey → Seen AccessAnswer) (finds : PageKey → Seen PageAnswer). ap (λ b. then (unless BadNumber b) (λ _. then (unless Unaligned (not (eqb (c.args.address % 8) 0))) (λ _. then (unless ShortList (ltb n 12)) (λ _. translation (registers m) asks finds view c.args.access c.args.register c.args.address n)))) (le-ltb _ _ c.if-register-gt15.false) ∙ ap (λ b. then (unless Unaligned (not b)) (λ _. then (unless ShortList (ltb n 12)) (λ _. translation (registers m) asks finds view c.args.access c.args.register c.args.address n))) (eq-eqb _ _ c.if-address-ne0.false) ∙ ap (λ b. then (unless ShortList b) (λ _. translation (registers m) asks finds view c.args.access c.args.register c.args.address n)) (lt-ltb _ _ c.if-list-lt12.true) in
+    let by = λ (asks : AccessKey → Traced AccessAnswer) (finds : PageKey → Traced PageAnswer). ap (λ b. then (unless BadNumber b) (λ _. then (unless Unaligned (not (eqb (c.args.address % 8) 0))) (λ _. then (unless ShortList (ltb n 12)) (λ _. translation (registers m) asks finds view c.args.access c.args.register c.args.address n)))) (le-ltb _ _ c.if-register-gt15.false) ∙ ap (λ b. then (unless Unaligned (not b)) (λ _. then (unless ShortList (ltb n 12)) (λ _. translation (registers m) asks finds view c.args.access c.args.register c.args.address n))) (eq-eqb _ _ c.if-address-ne0.false) ∙ ap (λ b. then (unless ShortList b) (λ _. translation (registers m) asks finds view c.args.access c.args.register c.args.address n)) (lt-ltb _ _ c.if-list-lt12.true) in
     record {
       gives = counts_refused ShortList c.args.list.now c.refused-then-list-lt12.ensures (by (access_asks shown.arts view.word) (page_asks shown.pages view.word));
       registers = refl;

@@ -13,7 +13,7 @@ returns g c =
     let word = (g.S.Storage.view c.args.storage.now).word in
     let asks = access_asks (g.A.Source.shows c.args.arts.now) word in
     record {
-      gives = subst (λ s. Stepped 7 s c.args.list.now c.args.used.now c.looked_up.new.list c.looked_up.new.used c.looked_up.result) (ap (looked_up asks) c.access_key.ensures ∙ token_looked_up r c.args.alet c.if-alet-eq0.false c.if-alet-eq1.false asks) c.looked_up.ensures.gives;
+      gives = subst (λ s. Stepped 7 s c.args.list.now c.args.used.now c.looked_up.new.trace c.looked_up.new.used c.looked_up.result) (ap (looked_up asks) c.access_key.ensures ∙ token_looked_up r c.args.alet c.if-alet-eq0.false c.if-alet-eq1.false asks) c.looked_up.ensures.gives;
       keeps = c.looked_up.ensures.keeps;
       moves = subst (λ o. Moved o (g.A.Source.moves c.args.arts.now (access_fresh word)) c.args.arts.now c.looked_up.new.arts) (ap Some c.access_key.ensures ∙ token_asked r c.args.alet c.if-alet-eq0.false c.if-alet-eq1.false) c.looked_up.ensures.moves;
     }

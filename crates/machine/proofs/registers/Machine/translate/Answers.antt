@@ -6,7 +6,7 @@ use Rattle.lookup.specs.declared.access.AccessAnswer.{AccessAnswer}
 use Rattle.lookup.specs.declared.page.PageKey.{PageKey}
 use Rattle.lookup.specs.declared.page.PageAnswer.{PageAnswer}
 use Rattle.machine.specs.Runs.{Shown}
-use Rattle.arch.specs.Walks.{Seen, Stepped, then}
+use Rattle.arch.specs.Walks.{Traced, Stepped, then}
 use Rattle.storage.specs.Views.{View}
 use Rattle.storage.specs.Prefixes.{prefixed}
 use Rattle.lookup.specs.Access.{AccessFits}
@@ -30,7 +30,7 @@ returns g c =
     let view = prefixed m.prefix (g.S.Storage.view c.args.storage.now.beneath) in
     let same : prefixed c.set_prefix.new.self.prefix (g.S.Storage.view c.set_prefix.new.self.beneath) ≡ view =
     ap₂ (λ p b. prefixed p (g.S.Storage.view b)) (prefix_set _ m.prefix m.bounds.3 m.bounds.4 c.set_prefix.ensures.prefix) c.set_prefix.ensures.under in
-    let step = λ (v : View). Stepped 12 (reach (registers m) (access_asks shown_a v.word) (page_asks shown_p v.word) v c.args.access c.args.register c.cut.result) c.args.list.now 0 c.reach-result.new.list c.reach-result.new.used c.reach-result.result in
+    let step = λ (v : View). Stepped 12 (reach (registers m) (access_asks shown_a v.word) (page_asks shown_p v.word) v c.args.access c.args.register c.cut.result) c.args.list.now 0 c.reach-result.new.trace c.reach-result.new.used c.reach-result.result in
     let reached = subst step same c.reach-result.ensures.gives in
     let plain = not_refused (registers m) (access_asks shown_a view.word) (page_asks shown_p view.word) view c.args.access c.args.register c.args.address (length c.args.list.now) c.if-register-gt15.false c.if-list-lt12.false in
     let cut = ap (λ a. reach (registers m) (access_asks shown_a view.word) (page_asks shown_p view.word) view c.args.access c.args.register a) (sym c.cut.ensures) in
@@ -66,7 +66,7 @@ returns-then-register-gt15 g c =
     let n = length c.args.list.now in
     let view = prefixed m.prefix (g.S.Storage.view c.args.storage.now.beneath) in
     let shown : Shown = record { arts = g.A.Source.shows c.args.arts.now; pages = g.P.Source.shows c.args.pages.now } in
-    let by = λ (asks : AccessKey → Seen AccessAnswer) (finds : PageKey → Seen PageAnswer). ap (λ b. then (unless BadNumber b) (λ _. then (unless ShortList (ltb n 12)) (λ _. reach (registers m) asks finds view c.args.access c.args.register (cutting m.size c.args.address)))) (lt-ltb _ _ c.if-register-gt15.true) in
+    let by = λ (asks : AccessKey → Traced AccessAnswer) (finds : PageKey → Traced PageAnswer). ap (λ b. then (unless BadNumber b) (λ _. then (unless ShortList (ltb n 12)) (λ _. reach (registers m) asks finds view c.args.access c.args.register (cutting m.size c.args.address)))) (lt-ltb _ _ c.if-register-gt15.true) in
     let counts = counts_refused BadNumber c.args.list.now c.refused.ensures (by (access_asks shown.arts view.word) (page_asks shown.pages view.word)) in
     record {
       gives = counts;
@@ -88,7 +88,7 @@ returns-then-list-lt12 g c =
     let n = length c.args.list.now in
     let view = prefixed m.prefix (g.S.Storage.view c.args.storage.now.beneath) in
     let shown : Shown = record { arts = g.A.Source.shows c.args.arts.now; pages = g.P.Source.shows c.args.pages.now } in
-    let by = λ (asks : AccessKey → Seen AccessAnswer) (finds : PageKey → Seen PageAnswer). ap (λ b. then (unless BadNumber b) (λ _. then (unless ShortList (ltb n 12)) (λ _. reach (registers m) asks finds view c.args.access c.args.register (cutting m.size c.args.address)))) (le-ltb _ _ c.if-register-gt15.false) ∙ ap (λ b. then (unless ShortList b) (λ _. reach (registers m) asks finds view c.args.access c.args.register (cutting m.size c.args.address))) (lt-ltb _ _ c.if-list-lt12.true) in
+    let by = λ (asks : AccessKey → Traced AccessAnswer) (finds : PageKey → Traced PageAnswer). ap (λ b. then (unless BadNumber b) (λ _. then (unless ShortList (ltb n 12)) (λ _. reach (registers m) asks finds view c.args.access c.args.register (cutting m.size c.args.address)))) (le-ltb _ _ c.if-register-gt15.false) ∙ ap (λ b. then (unless ShortList b) (λ _. reach (registers m) asks finds view c.args.access c.args.register (cutting m.size c.args.address))) (lt-ltb _ _ c.if-list-lt12.true) in
     let counts = counts_refused ShortList c.args.list.now c.refused-then-list-lt12.ensures (by (access_asks shown.arts view.word) (page_asks shown.pages view.word)) in
     record {
       gives = counts;
