@@ -7,6 +7,7 @@ use crate::table::Table;
 use arch::condition::Condition;
 use lookup::kind::Kind;
 use lookup::source::Source;
+use lookup::trace::Trace;
 use storage::storage::Storage;
 
 #[derive(Drop)]
@@ -16,28 +17,27 @@ pub struct Lookaside<T, B> {
 }
 
 impl<K: Kind, T: Table, B: Source<K>> Source<K> for Lookaside<T, B> {
-    ghost shows = { λ s k. told K.Kind.meant (T.Table.finds s.table (K.Kind.spelt k)) (B.Source.shows s.beneath k) };
+    ghost shows = { λ s k. told K.answer_of (T.finds s.table (K.key_words k)) (B.shows s.beneath k) };
 
-    ghost holds = { λ s k a. InTable K.Kind.meant (T.Table.keeps s.table (K.Kind.spelt k)) a ⊎ B.Source.holds s.beneath k a };
+    ghost holds = { λ s k a. InTable K.answer_of (T.keeps s.table (K.key_words k)) a ⊎ B.holds s.beneath k a };
 
-    ghost moves = { λ s fresh k t. Moves (T.Table.finds s.table (K.Kind.spelt k)) (B.Source.moves s.beneath fresh k t.beneath × Note K.Kind.written (λ w u. T.Table.noted s.table (K.Kind.spelt k) w u) s.table (asked (B.Source.shows s.beneath k) (fresh k)).result t.table) (t ≡ s) };
+    ghost after_ask = { λ s fresh k t. Moves (T.finds s.table (K.key_words k)) (B.after_ask s.beneath fresh k t.beneath × Note K.answer_words (λ w u. T.noted s.table (K.key_words k) w u) s.table (asked (B.shows s.beneath k) (fresh k)).result t.table) (t ≡ s) };
 
-    ghost clears = { λ s t. T.Table.cleared t.table × B.Source.clears s.beneath t.beneath };
+    ghost after_purge = { λ s t. T.cleared t.table × B.after_purge s.beneath t.beneath };
 
-    ghost shown = { λ s k a e. told_held K.Kind.meant (T.Table.finds s.table (K.Kind.spelt k)) (B.Source.shows s.beneath k) (T.Table.keeps s.table (K.Kind.spelt k)) (B.Source.holds s.beneath k) (λ w f. T.Table.found s.table (K.Kind.spelt k) w f) (λ b f. B.Source.shown s.beneath k b f) a e };
+    ghost shown_is_held = { λ s k a e. told_held K.answer_of (T.finds s.table (K.key_words k)) (B.shows s.beneath k) (T.keeps s.table (K.key_words k)) (B.holds s.beneath k) (λ w f. T.found s.table (K.key_words k) w f) (λ b f. B.shown_is_held s.beneath k b f) a e };
 
     fn ask<S: Storage>(
         &mut self,
         storage: &S,
         key: K::Key,
-        list: &mut [u64],
-        used: &mut usize,
+        trace: &mut Trace,
     ) -> Result<K::Answer, Condition> {
         let words = K::spell(key);
         if let Some(answer) = self.table.find(words) {
-            return Ok(K::mean(answer));
+            return Ok(K::read(answer));
         }
-        let answer = self.beneath.ask(storage, key, list, used)?;
+        let answer = self.beneath.ask(storage, key, trace)?;
         self.table.note(words, K::write(answer));
         Ok(answer)
     }

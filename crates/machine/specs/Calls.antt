@@ -1,84 +1,102 @@
--- What the calls do.
-use Rattle.std.specs.Prelude.{◌≡◌, ℕ, ◌%◌, ◌^◌, ◌≤◌, Bool, cond, not, ◌||◌, List, length, replicate, Some, None, Ok, Err, Option, Result, ◌==◌, nat_lt, slice_set}
-use Rattle.arch.specs.declared.call.SourceName.{SourceName}
-use Rattle.arch.specs.declared.call.SourceName.TheVariants.{AccessRegister, Page}
+-- The calls that translate, each as a function of what it sees.
+use Rattle.std.specs.Prelude.{◌≡◌, ℕ, ◌%◌, ◌≤◌, Bool, cond, not, ◌||◌, List, [], ◌++◌, length, drop, Some, None, Ok, Err, Option, Result, ◌==◌, nat_lt}
+use Rattle.arch.specs.declared.call.Access.{Access}
+use Rattle.arch.specs.declared.call.Access.TheVariants.{Fetch, Store}
 use Rattle.arch.specs.declared.condition.Condition.{Condition}
-use Rattle.arch.specs.declared.condition.Condition.TheVariants.{BadNumber, Unaligned}
-use Rattle.arch.specs.Walks.{Traced, written}
-use Rattle.storage.specs.Views.{View, after_put, put_result}
-use Rattle.storage.specs.Prefixes.{exchange}
-use Rattle.machine.specs.declared.registers.Control.{Control}
-use Rattle.machine.specs.Registers.{Registers}
+use Rattle.arch.specs.declared.condition.Condition.TheVariants.{BadNumber, Unaligned, ShortList, Addressing}
+use Rattle.arch.specs.Walks.{Traced, then}
+use Rattle.storage.specs.Views.{View}
+use Rattle.lookup.specs.declared.access.AccessKey.{AccessKey}
+use Rattle.lookup.specs.declared.page.PageKey.{PageKey}
+use Rattle.machine.specs.declared.counted.Counted.{Counted}
+use Rattle.machine.specs.declared.sources.Operand.{Operand}
+use Rattle.machine.specs.declared.sources.Sources.{Sources}
+use Rattle.machine.specs.Puts.{put_answer}
+use Rattle.machine.specs.Scene.{AccessSource, PageSource, Scene, ask_access, ask_page}
+use Rattle.machine.specs.Translation.{unless, cut, mode_asks, page_asked, space_by_mode, translation}
+use Rattle.machine.specs.Turns.{AsksAccess, AsksPage}
 
--- a call that lists addresses gave this result and count, and wrote the addresses to the first places
-pub record Counts {A : Type 0} (s : Traced A) (before after : List ℕ) (r : Result A Condition) (n : ℕ) : Type 0 where
-  pub result : r ≡ s.result
-  pub count : n ≡ length s.trace
-  pub places : after ≡ written before 0 s.trace
-  pub few : length s.trace ≤ 12
+-- what a call gives and lists, and which key it asks each source for, by what it sees
+pub record Translating (X : Type 0) : Type 0 where
+  pub gives : Scene → Traced X
+  pub access_key : Scene → Option AccessKey
+  pub page_key : Scene → Option PageKey
 
--- a number outside what is named, or too few places
-abbrev pub refuses_translation : ℕ → ℕ → Bool
-refuses_translation register places = nat_lt 15 register || nat_lt places 12
+-- the keys that a translation which is not refused asks for
+abbrev pub access_key_asked : Scene → Operand → Option AccessKey
+access_key_asked n o = mode_asks n.registers.mode n.registers o.register
 
--- a new machine has zero registers
-abbrev pub zero_registers : Registers
-zero_registers = record {
-  mode = 0;
-  size = 0;
-  key = 0;
-  prefix = 0;
-  control = record { c0 = 0; c1 = 0; c2 = 0; c5 = 0; c7 = 0; c8 = 0; c13 = 0 };
-  access = replicate 16 0;
+abbrev pub page_key_asked : Scene → Access → Operand → Option PageKey
+page_key_asked n access o = page_asked n.registers access (cut n.registers.size o.address) (space_by_mode n.registers.mode n.registers (ask_access n) o.register).result
+
+-- of such keys none where the call is refused
+abbrev pub unless_refused : {Key : Type 0} → Bool → Option Key → Option Key
+unless_refused refused key = cond refused None key
+
+-- a translation is refused at a number of no access register, or with too few places for its list
+abbrev pub refuses_translation : Operand → ℕ → Bool
+refuses_translation o places = nat_lt 15 o.register || nat_lt places 12
+
+abbrev pub translates : Access → Operand → ℕ → Translating ℕ
+translates access o places = record {
+  gives = λ n. translation n.registers (ask_access n) (ask_page n) n.real access o places;
+  access_key = λ n. unless_refused (refuses_translation o places) (access_key_asked n o);
+  page_key = λ n. unless_refused (refuses_translation o places) (page_key_asked n access o);
 }
 
--- a control register set, where it is one of those that there are
-abbrev pub control_set : Control → ℕ → ℕ → Option Control
-control_set k n v =
-    cond (n == 0) (Some (record { c0 = v; c1 = k.c1; c2 = k.c2; c5 = k.c5; c7 = k.c7; c8 = k.c8; c13 = k.c13 }))
-    (cond (n == 1) (Some (record { c0 = k.c0; c1 = v; c2 = k.c2; c5 = k.c5; c7 = k.c7; c8 = k.c8; c13 = k.c13 }))
-    (cond (n == 2) (Some (record { c0 = k.c0; c1 = k.c1; c2 = v; c5 = k.c5; c7 = k.c7; c8 = k.c8; c13 = k.c13 }))
-    (cond (n == 5) (Some (record { c0 = k.c0; c1 = k.c1; c2 = k.c2; c5 = v; c7 = k.c7; c8 = k.c8; c13 = k.c13 }))
-    (cond (n == 7) (Some (record { c0 = k.c0; c1 = k.c1; c2 = k.c2; c5 = k.c5; c7 = v; c8 = k.c8; c13 = k.c13 }))
-    (cond (n == 8) (Some (record { c0 = k.c0; c1 = k.c1; c2 = k.c2; c5 = k.c5; c7 = k.c7; c8 = v; c13 = k.c13 }))
-    (cond (n == 13) (Some (record { c0 = k.c0; c1 = k.c1; c2 = k.c2; c5 = k.c5; c7 = k.c7; c8 = k.c8; c13 = v }))
-    None))))))
+-- a fetch or a store also at an address that is no multiple of 8
+abbrev pub refuses_access : Operand → ℕ → Bool
+refuses_access o places = nat_lt 15 o.register || (not (o.address % 8 == 0) || nat_lt places 12)
 
-abbrev pub with_control : Registers → Option Control → Option Registers
-with_control r None = None
-with_control r (Some k) = Some (record { mode = r.mode; size = r.size; key = r.key; prefix = r.prefix; control = k; access = r.access })
+-- the translation that a fetch or a store makes: its refusals, and then the translation
+abbrev pub accesses : Access → Operand → ℕ → Translating ℕ
+accesses access o places = record {
+  gives = λ n.
+    then (unless BadNumber (nat_lt 15 o.register))
+    (λ _. then (unless Unaligned (not (o.address % 8 == 0)))
+    (λ _. then (unless ShortList (nat_lt places 12))
+    (λ _. (translates access o places).gives n)));
+  access_key = λ n. unless_refused (refuses_access o places) (access_key_asked n o);
+  page_key = λ n. unless_refused (refuses_access o places) (page_key_asked n access o);
+}
 
--- the registers after a load, none where a number is outside what is named
-abbrev pub load_control : ℕ → ℕ → Registers → Option Registers
-load_control n v r = with_control r (control_set r.control n v)
+-- a result with no address asked for
+abbrev pub plainly : {A : Type 0} → Result A Condition → Traced A
+plainly r = record { result = r; trace = [] }
 
-abbrev pub load_access : ℕ → ℕ → Registers → Option Registers
-load_access n v r = cond (nat_lt 15 n || not (nat_lt v (2 ^ 32))) None (Some (record { mode = r.mode; size = r.size; key = r.key; prefix = r.prefix; control = r.control; access = slice_set r.access n v }))
+-- the doubleword at a real address
+abbrev pub value_there : Option ℕ → Result ℕ Condition
+value_there None = Err Addressing
+value_there (Some x) = Ok x
 
-abbrev pub load_mode : ℕ → ℕ → ℕ → Registers → Option Registers
-load_mode mode size key r = cond (nat_lt 4 mode || (nat_lt 2 size || nat_lt 15 key)) None (Some (record { mode = mode; size = size; key = key; prefix = r.prefix; control = r.control; access = r.access }))
+-- a translation, and then the doubleword there
+abbrev pub fetches : Operand → ℕ → Translating ℕ
+fetches o places = record {
+  gives = λ n. then ((accesses Fetch o places).gives n) (λ real. plainly (value_there (n.real.word real)));
+  access_key = (accesses Fetch o places).access_key;
+  page_key = (accesses Fetch o places).page_key;
+}
 
--- what a load answers
-abbrev pub load_result : Option Registers → Result (Unit {0}) Condition
-load_result None = Err BadNumber
-load_result (Some r) = Ok tt
+abbrev pub stores : Operand → ℕ → Translating (Unit {0})
+stores o places = record {
+  gives = λ n. then ((accesses Store o places).gives n) (λ real. plainly (put_answer n.real real));
+  access_key = (accesses Store o places).access_key;
+  page_key = (accesses Store o places).page_key;
+}
 
--- the registers with another prefix
-abbrev pub with_prefix : ℕ → Registers → Registers
-with_prefix p r = record { mode = r.mode; size = r.size; key = r.key; prefix = p; control = r.control; access = r.access }
+abbrev pub traced : {X : Type 0} → Result X Condition → List ℕ → Traced X
+traced r trace = record { result = r; trace = trace }
 
--- a put is refused at what is no multiple of 8, before everything
-abbrev pub put_answer : View → ℕ → Result (Unit {0}) Condition
-put_answer v a = cond (a % 8 == 0) (put_result v a) (Err Unaligned)
+-- what such a call leaves: its result and count, and in the list's first places the addresses asked for, at most
+-- twelve; the other places are as they were
+pub record Reports {X : Type 0} (t : Traced X) (before after : List ℕ) (r : Counted X) : Type 0 where
+  pub result : r.result ≡ t.result
+  pub count : r.count ≡ length t.trace
+  pub list : after ≡ t.trace ++ drop (length t.trace) before
+  pub few : length t.trace ≤ 12
 
-abbrev pub put_view : View → ℕ → ℕ → View
-put_view v a x = cond (a % 8 == 0) (after_put v a x) v
-
--- the same seen beneath the prefix
-abbrev pub put_under : ℕ → View → ℕ → ℕ → View
-put_under prefix v a x = cond (a % 8 == 0) (after_put v (exchange 8192 prefix a) x) v
-
--- the named source is empty, and the other as it was
-abbrev pub Purged : SourceName → Type 0 → Type 0 → Type 0 → Type 0 → Type 0
-Purged AccessRegister arts_empty arts_same pages_empty pages_same = arts_empty × pages_same
-Purged Page arts_empty arts_same pages_empty pages_same = arts_same × pages_empty
+-- what making such a call reports, and what it does to the sources
+pub record Makes {A P X : Type 0} (a : AccessSource A) (p : PageSource P) (c : Translating X) (n : Scene) (before : Sources A P) (list : List ℕ) (r : Counted X) (after : Sources A P) (list' : List ℕ) : Type 0 where
+  pub reports : Reports (c.gives n) list list' r
+  pub access : AsksAccess a n.real (c.access_key n) before.access after.access
+  pub page : AsksPage p n.real (c.page_key n) before.page after.page

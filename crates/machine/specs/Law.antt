@@ -1,59 +1,74 @@
 -- The law of every run: what is known of each answer, however stores, purges and translations follow one another.
-use Rattle.std.specs.Prelude.{◌≡◌, ℕ, ◌*◌, ◌/◌, ◌^◌, ◌<◌, ◌≤◌, cond, ◌⊎◌, List, [], ◌∷◌, length, is_some, Some, None, Ok, Option, Result, nat_lt, slice_index}
+use Rattle.std.specs.Prelude.{◌≡◌, ℕ, ◌*◌, ◌/◌, ◌≤◌, ◌⊎◌, List, [], ◌∷◌, length, is_some, Some, Ok, Option, Result, nat_lt}
 use Rattle.std.specs.List.{AllByRecursion}
 use Rattle.arch.specs.declared.call.Access.{Access}
-use Rattle.arch.specs.declared.call.SourceName.TheVariants.{AccessRegister, Page}
 use Rattle.arch.specs.declared.condition.Condition.{Condition}
 use Rattle.arch.specs.declared.condition.Condition.TheVariants.{BadNumber, ShortList, LowAddress}
 use Rattle.arch.specs.Walks.{Traced, then, Agree}
+use Rattle.storage.specs.Prefixes.{prefixed}
 use Rattle.storage.specs.Views.{View, block_of}
 use Rattle.lookup.specs.declared.access.AccessKey.{AccessKey}
-use Rattle.lookup.specs.declared.access.AccessAnswer.{AccessAnswer}
 use Rattle.lookup.specs.declared.page.PageKey.{PageKey}
-use Rattle.lookup.specs.declared.page.PageAnswer.{PageAnswer}
 use Rattle.lookup.specs.Access.{AccessFits}
-use Rattle.lookup.specs.Lookups.{access_fresh, page_fresh, access_asks, page_asks}
+use Rattle.lookup.specs.Lookups.{access_fresh, page_fresh}
 use Rattle.lookup.specs.Spelling.{PageFits}
+use Rattle.machine.specs.declared.counted.Counted.{Counted}
 use Rattle.machine.specs.declared.request.Outcome.{Outcome}
 use Rattle.machine.specs.declared.request.Outcome.TheVariants as outcome
 use Rattle.machine.specs.declared.request.Request.{Request}
-use Rattle.machine.specs.Calls.{zero_registers, refuses_translation}
-use Rattle.machine.specs.Registers.{Registers}
-use Rattle.machine.specs.Runs.{Shown, bare, real_view, outcome_of, registers_after, view_after, Translating, translates, art_asked, page_asked_by, purges, Passed}
-use Rattle.machine.specs.Translation.{unless, cut, mode_asks, page_asked, space_by_mode, low_protected, real_of, translation}
+use Rattle.machine.specs.declared.sources.Operand.{Operand}
+use Rattle.machine.specs.declared.sources.Sources.{Sources}
+use Rattle.machine.specs.Calls.{Translating, translates}
+use Rattle.machine.specs.Effects.{Turn, purged, asked_for, left, Effect, effect_of, TurnsAccess, TurnsPage}
+use Rattle.machine.specs.Puts.{after_puts_under}
+use Rattle.machine.specs.Registers.{Registers, zero_registers}
+use Rattle.machine.specs.Scene.{AccessSource, PageSource, Held, held, Scene, Shown, ask_access, ask_page, bare, seen, shown, unshown}
+use Rattle.machine.specs.Translation.{unless, cut, low_protected, real_of, space_by_mode}
+use Rattle.machine.specs.Turns.{EmptiesBoth}
 
--- MOMENTS. A run stands between two calls: the registers, the storage beneath the prefix, and what the machine
--- saw of the storage at the earlier moments since each source's latest purge. A doubleword that is absent counts
--- as a value.
+-- MOMENTS. A run stands between two calls. Of each earlier moment since the latest purge of a source it is known which
+-- doublewords the machine saw then. One that is absent counts as a value.
+pub record Past : Type 0 where
+  pub access : List (ℕ → Option ℕ)
+  pub page : List (ℕ → Option ℕ)
+
+-- with the present moment, which comes first
+abbrev pub since : (ℕ → Option ℕ) → Past → Past
+since now past = record { access = now ∷ past.access; page = now ∷ past.page }
+
+-- the registers, the storage beneath the prefix, and the past
 pub record State : Type 0 where
   pub registers : Registers
   pub view : View
-  pub arts_earlier : List (ℕ → Option ℕ)
-  pub pages_earlier : List (ℕ → Option ℕ)
+  pub past : Past
+
+-- what a call that starts there sees, with what the sources show
+abbrev pub scene_at : State → Shown → Scene
+scene_at s shown = seen s.registers (prefixed s.registers.prefix s.view) shown
 
 -- the doublewords as the machine sees them now
 abbrev pub seen_now : State → ℕ → Option ℕ
-seen_now s = (real_view s.registers s.view).word
-
--- all moments since the latest purge of a source, the present one first
-abbrev pub arts_since : State → List (ℕ → Option ℕ)
-arts_since s = seen_now s ∷ s.arts_earlier
-
-abbrev pub pages_since : State → List (ℕ → Option ℕ)
-pages_since s = seen_now s ∷ s.pages_earlier
+seen_now s = (prefixed s.registers.prefix s.view).word
 
 -- a run begins with a new machine, which has purged both sources
 abbrev pub start : View → State
-start v = record { registers = zero_registers; view = v; arts_earlier = []; pages_earlier = [] }
+start v = record { registers = zero_registers; view = v; past = record { access = []; page = [] } }
 
--- a call, with what the sources showed as it began, ends one moment and begins the next; a purge leaves no
--- earlier moment
+-- a purge leaves no earlier moment
+abbrev pub moments_after : {Key : Type 0} → Turn Key → List (ℕ → Option ℕ) → List (ℕ → Option ℕ)
+moments_after purged moments = []
+moments_after (asked_for k) moments = moments
+moments_after left moments = moments
+
+-- a call, with what the sources showed as it began, ends one moment and begins the next
 abbrev pub next : State → Shown → Request → State
 next s shown c = record {
-  registers = registers_after s.registers c;
-  view = view_after s.registers shown s.view c;
-  arts_earlier = cond (purges AccessRegister c) [] (arts_since s);
-  pages_earlier = cond (purges Page c) [] (pages_since s);
+  registers = (effect_of c (scene_at s shown)).registers;
+  view = after_puts_under s.registers.prefix (effect_of c (scene_at s shown)).puts s.view;
+  past = record {
+    access = moments_after (effect_of c (scene_at s shown)).access (since (seen_now s) s.past).access;
+    page = moments_after (effect_of c (scene_at s shown)).page (since (seen_now s) s.past).page;
+  };
 }
 
 -- at one of these moments
@@ -61,160 +76,139 @@ abbrev pub Once : ((ℕ → Option ℕ) → Type 0) → List (ℕ → Option ℕ
 Once P [] = ⊥
 Once P (w ∷ ws) = P w ⊎ Once P ws
 
--- THE RECORD. What came of a call.
-abbrev pub Came : State → Shown → Request → Outcome → Type 0
-Came s shown c o = o ≡ outcome_of s.registers shown s.view c
-
 -- FRESH ONCE. Every answer that a source shows is the one fresh for its key at some moment since its latest purge.
--- (Where it shows none, it gives the fresh result of the present moment, an exception too: so `access_asks` says.)
+-- (Where it shows none, it gives the fresh result of the present moment, an exception too: so `ask_access` says.)
 abbrev pub FreshOnce : {Key Answer : Type 0} → (Key → Type 0) → ((ℕ → Option ℕ) → Key → Traced Answer) → List (ℕ → Option ℕ) → (Key → Option Answer) → Type 0
-FreshOnce {Key} {Answer} fits fresh since shows = (k : Key) (a : Answer) → fits k → shows k ≡ Some a → Once (λ w. (fresh w k).result ≡ Ok a) since
+FreshOnce {Key} {Answer} fits fresh moments shows = (k : Key) (a : Answer) → fits k → shows k ≡ Some a → Once (λ w. (fresh w k).result ≡ Ok a) moments
+
+pub record ShowFreshOnce (moments : Past) (shown : Shown) : Type 0 where
+  pub access : FreshOnce AccessFits access_fresh moments.access shown.access
+  pub page : FreshOnce PageFits page_fresh moments.page shown.page
 
 -- these doublewords have held one value at all of these moments
 abbrev pub Steady : (ℕ → Option ℕ) → List (ℕ → Option ℕ) → List ℕ → Type 0
-Steady now since list = AllByRecursion (λ w. Agree now w list) since
+Steady now moments list = AllByRecursion (λ w. Agree now w list) moments
 
--- what bare sources would fetch for a translation has held one value since the latest purge of the source in whose
--- place they stand
-abbrev pub UnchangedFor : Registers → (ℕ → Option ℕ) → List (ℕ → Option ℕ) → List (ℕ → Option ℕ) → Option Translating → Type 0
-UnchangedFor r now arts_earlier pages_earlier t =
-    ((k : AccessKey) → art_asked r t ≡ Some k → Steady now (now ∷ arts_earlier) (access_fresh now k).trace)
-    × ((k : PageKey) → page_asked_by r (access_fresh now) t ≡ Some k → Steady now (now ∷ pages_earlier) (page_fresh now k).trace)
+-- what the lookups of these keys would fetch has held one value since the latest purge of their sources
+pub record AreUnchanged (now : ℕ → Option ℕ) (moments : Past) (asks_access : AccessKey → Type 0) (asks_page : PageKey → Type 0) : Type 0 where
+  pub access : (k : AccessKey) → asks_access k → Steady now moments.access (access_fresh now k).trace
+  pub page : (k : PageKey) → asks_page k → Steady now moments.page (page_fresh now k).trace
 
--- the same of the translation that a call makes, if any
+-- so of the keys that a call would ask for with bare sources in place of both
+abbrev pub IsUnchanged : {X : Type 0} → Translating X → Scene → Past → Type 0
+IsUnchanged c n past = AreUnchanged n.real.word (since n.real.word past) (λ k. c.access_key (unshown n) ≡ Some k) (λ k. c.page_key (unshown n) ≡ Some k)
+
 abbrev pub Unchanged : State → Request → Type 0
-Unchanged s c = UnchangedFor s.registers (seen_now s) s.arts_earlier s.pages_earlier (translates c)
+Unchanged s c = AreUnchanged (seen_now s) (since (seen_now s) s.past) (λ k. (effect_of c (scene_at s bare)).access ≡ asked_for k) (λ k. (effect_of c (scene_at s bare)).page ≡ asked_for k)
 
 -- an outcome but for the count of doublewords fetched
-abbrev pub uncounted : Outcome → Outcome
-uncounted (outcome.Loaded r) = outcome.Loaded r
-uncounted (outcome.Translated x) = outcome.Translated (record { result = x.result; count = 0 })
-uncounted (outcome.Put r) = outcome.Put r
-uncounted outcome.Purged = outcome.Purged
-uncounted (outcome.Fetched x) = outcome.Fetched (record { result = x.result; count = 0 })
-uncounted (outcome.Stored x) = outcome.Stored (record { result = x.result; count = 0 })
+abbrev pub uncounted : {X : Type 0} → Counted X → Counted X
+uncounted x = record { result = x.result; count = 0 }
 
--- FRESH NOW WHERE NOTHING CHANGED. There what comes of a call, but for the count, is what comes of it with bare
--- sources in place of both, and it leaves the same storage.
+abbrev pub uncounted_outcome : Outcome → Outcome
+uncounted_outcome (outcome.Loaded r) = outcome.Loaded r
+uncounted_outcome (outcome.Translated x) = outcome.Translated (uncounted x)
+uncounted_outcome (outcome.Put r) = outcome.Put r
+uncounted_outcome outcome.Purged = outcome.Purged
+uncounted_outcome (outcome.Fetched x) = outcome.Fetched (uncounted x)
+uncounted_outcome (outcome.Stored x) = outcome.Stored (uncounted x)
+
+-- these effects are the same but for the count and for what the sources are asked
+pub record SameButCount (e f : Effect) : Type 0 where
+  pub outcome : uncounted_outcome e.outcome ≡ uncounted_outcome f.outcome
+  pub registers : e.registers ≡ f.registers
+  pub puts : e.puts ≡ f.puts
+
+-- FRESH NOW WHERE NOTHING CHANGED. There a call does, but for the count, what it does with bare sources in place of
+-- both.
 abbrev pub FreshNow : State → Shown → Request → Type 0
-FreshNow s shown c =
-    Unchanged s c
-    → (uncounted (outcome_of s.registers shown s.view c) ≡ uncounted (outcome_of s.registers bare s.view c))
-    × (view_after s.registers shown s.view c ≡ view_after s.registers bare s.view c)
+FreshNow s shown c = Unchanged s c → SameButCount (effect_of c (scene_at s shown)) (effect_of c (scene_at s bare))
 
--- one call keeps the law
+-- THE RECORD. What came of a call, and the law of it.
 pub record KeepsLaw (s : State) (shown : Shown) (c : Request) (o : Outcome) : Type 0 where
-  pub came : Came s shown c o
-  pub arts_once : FreshOnce AccessFits access_fresh (arts_since s) shown.arts
-  pub pages_once : FreshOnce PageFits page_fresh (pages_since s) shown.pages
+  pub came : o ≡ (effect_of c (scene_at s shown)).outcome
+  pub once : ShowFreshOnce (since (seen_now s) s.past) shown
   pub now : FreshNow s shown c
 
--- A run over two sources of any make, by what they show and by what an ask or a purge does to them.
-module _ {A P : Type 0} (arts_show : A → AccessKey → Option AccessAnswer) (arts_move : A → (AccessKey → Traced AccessAnswer) → AccessKey → A → Type 0) (arts_clear : A → A → Type 0)
-    (pages_show : P → PageKey → Option PageAnswer) (pages_move : P → (PageKey → Traced PageAnswer) → PageKey → P → Type 0) (pages_clear : P → P → Type 0) where
-  abbrev pub shown_by : A → P → Shown
-  shown_by a p = record { arts = arts_show a; pages = pages_show p }
+-- A run over two sources of any make.
+module _ {A P : Type 0} (a : AccessSource A) (p : PageSource P) where
+  -- one call keeps the law, and both sources take their turns, over the storage as it starts
+  pub record Takes (s : State) (before : Sources A P) (c : Request) (o : Outcome) (after : Sources A P) : Type 0 where
+    pub law : KeepsLaw s (shown a p before) c o
+    pub access : TurnsAccess a (prefixed s.registers.prefix s.view) (effect_of c (scene_at s (shown a p before))).access before.access after.access
+    pub page : TurnsPage p (prefixed s.registers.prefix s.view) (effect_of c (scene_at s (shown a p before))).page before.page after.page
 
-  -- each source after a call: purged, or asked for its key over the storage as the call starts, or as it was
-  abbrev pub ArtsPass : Registers → View → Request → A → A → Type 0
-  ArtsPass r v c a a' = Passed (purges AccessRegister c) (art_asked r (translates c)) arts_clear (arts_move a (access_fresh (real_view r v).word)) a a'
+  -- so each call of a run, from one state of machine, storage and sources to another
+  abbrev pub Lawful : State → Sources A P → List Request → List Outcome → State → Sources A P → Type 0
+  Lawful s b [] [] s' b' = (s' ≡ s) × (b' ≡ b)
+  Lawful s b [] (o ∷ os) s' b' = ⊥
+  Lawful s b (c ∷ cs) [] s' b' = ⊥
+  Lawful s b (c ∷ cs) (o ∷ os) s' b' = (d : Sources A P) × (Takes s b c o d × Lawful (next s (shown a p b) c) d cs os s' b')
 
-  abbrev pub PagesPass : Registers → View → Shown → Request → P → P → Type 0
-  PagesPass r v shown c p p' = Passed (purges Page c) (page_asked_by r (access_asks shown.arts (real_view r v).word) (translates c)) pages_clear (pages_move p (page_fresh (real_view r v).word)) p p'
-
-  -- each call of a run keeps the law, from one state of storage and sources to another
-  abbrev pub Lawful : State → A → P → List Request → List Outcome → State → A → P → Type 0
-  Lawful s a p [] os s' a' p' = (s' ≡ s) × (a' ≡ a) × (p' ≡ p)
-  Lawful s a p (c ∷ cs) [] s' a' p' = ⊥
-  Lawful s a p (c ∷ cs) (o ∷ os) s' a' p' = (b : A) × ((q : P) × (KeepsLaw s (shown_by a p) c o × ArtsPass s.registers s.view c a b × PagesPass s.registers s.view (shown_by a p) c p q × Lawful (next s (shown_by a p) c) b q cs os s' a' p'))
-
-  -- a whole run: the new call purges both sources, over a storage and sources in any state, and the law holds
-  -- of every call from there on
-  pub record Ran (v : View) (a : A) (p : P) (cs : List Request) (os : List Outcome) (v' : View) (a' : A) (p' : P) : Type 0 where
-    pub arts : A
-    pub pages : P
+  -- a whole run: the new call purges both sources, over a storage and sources in any state, and the law holds of
+  -- every call from there on
+  pub record Ran (v : View) (b : Sources A P) (cs : List Request) (os : List Outcome) (v' : View) (b' : Sources A P) : Type 0 where
+    pub emptied : Sources A P
     pub last : State
-    pub arts_purged : arts_clear a arts
-    pub pages_purged : pages_clear p pages
-    pub law : Lawful (start v) arts pages cs os last a' p'
+    pub empties : EmptiesBoth a p b emptied
+    pub law : Lawful (start v) emptied cs os last b'
     pub view : v' ≡ last.view
 
--- NOTHING ELSE MATTERS. What a translation sees of a machine besides its registers: what its sources show, and the
--- storage through its prefix.
-pub record SeenBy : Type 0 where
-  pub arts : AccessKey → Option AccessAnswer
-  pub pages : PageKey → Option PageAnswer
-  pub view : View
+-- NOTHING ELSE MATTERS. The real address of a translation, before the doubleword there is looked at.
+abbrev pub real_seen : Scene → Access → Operand → ℕ → Traced ℕ
+real_seen n access o places =
+    then (unless BadNumber (nat_lt 15 o.register)) (λ _. then (unless ShortList (nat_lt places 12))
+    (λ _. then (space_by_mode n.registers.mode n.registers (ask_access n) o.register)
+    (λ space. then (unless LowAddress (low_protected n.registers access (cut n.registers.size o.address)))
+    (λ _. real_of (ask_page n) access space (cut n.registers.size o.address)))))
 
-module _ (r : Registers) (m : SeenBy) (access : Access) (register address places : ℕ) where
-  abbrev pub translated : Traced ℕ
-  translated = translation r (access_asks m.arts m.view.word) (page_asks m.pages m.view.word) m.view access register address places
-
-  abbrev pub space_seen : Traced (Option AccessAnswer)
-  space_seen = space_by_mode r.mode r (access_asks m.arts m.view.word) register
-
-  -- the keys that it asks for: none where it is refused
-  abbrev pub art_key : Option AccessKey
-  art_key = cond (refuses_translation register places) None (mode_asks r.mode r register)
-
-  abbrev pub page_key_seen : Option PageKey
-  page_key_seen = cond (refuses_translation register places) None (page_asked r access (cut r.size address) space_seen.result)
-
-  -- the real address, before the doubleword there is looked at
-  abbrev pub real_seen : Traced ℕ
-  real_seen =
-      then (unless BadNumber (nat_lt 15 register)) (λ _. then (unless ShortList (nat_lt places 12))
-      (λ _. then space_seen (λ space. then (unless LowAddress (low_protected r access (cut r.size address)))
-      (λ _. real_of (page_asks m.pages m.view.word) access space (cut r.size address)))))
-
--- alike in what the sources show for the keys that the first asks, in the doublewords that it lists, and in presence
--- and key of the doubleword that it reaches
-pub record Alike (r : Registers) (m n : SeenBy) (access : Access) (register address places : ℕ) : Type 0 where
-  pub arts : (k : AccessKey) → art_key r m access register address places ≡ Some k → m.arts k ≡ n.arts k
-  pub pages : (k : PageKey) → page_key_seen r m access register address places ≡ Some k → m.pages k ≡ n.pages k
-  pub listed : Agree m.view.word n.view.word (translated r m access register address places).trace
-  pub present : (real : ℕ) → (real_seen r m access register address places).result ≡ Ok real → is_some (m.view.word (real / 8 * 8)) ≡ is_some (n.view.word (real / 8 * 8))
-  pub key : (real : ℕ) → (real_seen r m access register address places).result ≡ Ok real → m.view.key (block_of real) ≡ n.view.key (block_of real)
+-- alike in the registers, in what the sources show for the keys that the first asks, in the doublewords that it lists,
+-- and in presence and key of the doubleword that it reaches
+pub record Alike (m n : Scene) (access : Access) (o : Operand) (places : ℕ) : Type 0 where
+  pub registers : m.registers ≡ n.registers
+  pub access : (k : AccessKey) → (translates access o places).access_key m ≡ Some k → m.shown.access k ≡ n.shown.access k
+  pub page : (k : PageKey) → (translates access o places).page_key m ≡ Some k → m.shown.page k ≡ n.shown.page k
+  pub listed : Agree m.real.word n.real.word ((translates access o places).gives m).trace
+  pub present : (real : ℕ) → (real_seen m access o places).result ≡ Ok real → is_some (m.real.word (real / 8 * 8)) ≡ is_some (n.real.word (real / 8 * 8))
+  pub key : (real : ℕ) → (real_seen m access o places).result ≡ Ok real → m.real.key (block_of real) ≡ n.real.key (block_of real)
 
 -- they give the same address or condition, and the same list, which has at most twelve addresses
-abbrev pub AnswersAlike : Registers → SeenBy → SeenBy → Access → ℕ → ℕ → ℕ → Type 0
-AnswersAlike r m n access register address places =
-    (translated r n access register address places ≡ translated r m access register address places)
-    × (length (translated r m access register address places).trace ≤ 12)
+abbrev pub AnswersAlike : Scene → Scene → Access → Operand → ℕ → Type 0
+AnswersAlike m n access o places =
+    ((translates access o places).gives n ≡ (translates access o places).gives m)
+    × (length ((translates access o places).gives m).trace ≤ 12)
 
 -- of any two machines, for any translation
 abbrev pub NothingElseMatters : Type 0
-NothingElseMatters = (r : Registers) (m n : SeenBy) (access : Access) (register address places : ℕ) → Alike r m n access register address places → AnswersAlike r m n access register address places
+NothingElseMatters = (m n : Scene) (access : Access) (o : Operand) (places : ℕ) → Alike m n access o places → AnswersAlike m n access o places
 
--- CALL BY CALL. Where a machine and its sources stand as in such a state: every pair held was fresh at one of the
--- moments since the latest purge.
+-- CALL BY CALL. Every pair held was fresh at one of the moments since the latest purge.
 abbrev pub Sound : {Key Answer : Type 0} → (Key → Type 0) → ((ℕ → Option ℕ) → Key → Traced Answer) → List (ℕ → Option ℕ) → (Key → Answer → Type 0) → Type 0
-Sound {Key} {Answer} fits fresh since holds = (k : Key) (a : Answer) → fits k → holds k a → Once (λ w. (fresh w k).result ≡ Ok a) since
+Sound {Key} {Answer} fits fresh moments holds = (k : Key) (a : Answer) → fits k → holds k a → Once (λ w. (fresh w k).result ≡ Ok a) moments
 
--- access registers have 32 bits
-abbrev pub Bounded : Registers → Type 0
-Bounded r = (i : ℕ) → slice_index r.access i < 2 ^ 32
+pub record AreSound (moments : Past) (holds : Held) : Type 0 where
+  pub access : Sound AccessFits access_fresh moments.access holds.access
+  pub page : Sound PageFits page_fresh moments.page holds.page
 
-pub record Stands (s : State) (r : Registers) (v : View) (arts_hold : AccessKey → AccessAnswer → Type 0) (pages_hold : PageKey → PageAnswer → Type 0) : Type 0 where
+-- where a machine and its sources stand as in such a state
+pub record Stands (s : State) (r : Registers) (v : View) (holds : Held) : Type 0 where
   pub registers : r ≡ s.registers
   pub view : v ≡ s.view
-  pub arts : Sound AccessFits access_fresh (arts_since s) arts_hold
-  pub pages : Sound PageFits page_fresh (pages_since s) pages_hold
-  pub small : Bounded s.registers
+  pub sound : AreSound (since (seen_now s) s.past) holds
 
--- A single translation, whatever the past of the sources: every answer shown was fresh at one of the moments since the
--- latest purge, what it gives is what it gives with bare sources where nothing changed, and every pair held afterwards
--- was fresh at one of these moments too.
-pub record FreshAnswer {X : Type 0} (r : Registers) (now : ℕ → Option ℕ) (shown : Shown) (t : Translating) (gives bare_gives : Result X Condition) (arts_after : AccessKey → AccessAnswer → Type 0) (pages_after : PageKey → PageAnswer → Type 0) (arts_earlier pages_earlier : List (ℕ → Option ℕ)) : Type 0 where
-  pub arts_once : FreshOnce AccessFits access_fresh (now ∷ arts_earlier) shown.arts
-  pub pages_once : FreshOnce PageFits page_fresh (now ∷ pages_earlier) shown.pages
-  pub same : UnchangedFor r now arts_earlier pages_earlier (Some t) → gives ≡ bare_gives
-  pub arts : Sound AccessFits access_fresh (now ∷ arts_earlier) arts_after
-  pub pages : Sound PageFits page_fresh (now ∷ pages_earlier) pages_after
+-- A single call that translates, after this past of the sources: every answer shown was fresh at one of the moments
+-- since the latest purge, what it gives is what it gives with bare sources where nothing changed, and every pair held
+-- afterwards was fresh at one of these moments too.
+pub record FreshAnswer {X : Type 0} (c : Translating X) (n : Scene) (r : Result X Condition) (after : Held) (past : Past) : Type 0 where
+  pub once : ShowFreshOnce (since n.real.word past) n.shown
+  pub same : IsUnchanged c n past → r ≡ (c.gives (unshown n)).result
+  pub sound : AreSound (since n.real.word past) after
 
--- so of any past in which every pair held was fresh at one of the moments
-abbrev pub AnswersFresh : {X : Type 0} → Registers → (ℕ → Option ℕ) → Shown → Translating → Result X Condition → Result X Condition → (AccessKey → AccessAnswer → Type 0) → (AccessKey → AccessAnswer → Type 0) → (PageKey → PageAnswer → Type 0) → (PageKey → PageAnswer → Type 0) → Type 0
-AnswersFresh r now shown t gives bare_gives arts_before arts_after pages_before pages_after =
-    (arts_earlier pages_earlier : List (ℕ → Option ℕ)) → Bounded r
-    → Sound AccessFits access_fresh (now ∷ arts_earlier) arts_before → Sound PageFits page_fresh (now ∷ pages_earlier) pages_before
-    → FreshAnswer r now shown t gives bare_gives arts_after pages_after arts_earlier pages_earlier
+-- so after any past in which every pair held was fresh at one of the moments
+abbrev pub AnswersFresh : {X : Type 0} → Translating X → Scene → Result X Condition → Held → Held → Type 0
+AnswersFresh c n r before after = (past : Past) → AreSound (since n.real.word past) before → FreshAnswer c n r after past
+
+-- so each call from there on keeps the law, and leaves the machine and its sources in the next state
+abbrev pub GoesOn : {A P : Type 0} → AccessSource A → PageSource P → Registers → View → Sources A P → Request → Outcome → Registers → View → Sources A P → Type 0
+GoesOn a p r v b c o r' v' b' =
+    (s : State) → Stands s r v (held a p b) → KeepsLaw s (shown a p b) c o × Stands (next s (shown a p b) c) r' v' (held a p b')

@@ -1,7 +1,9 @@
-pub mod Accesses
 pub mod Calls
+pub mod Effects
 pub mod Law
 pub mod Orders
+pub mod Puts
 pub mod Registers
-pub mod Runs
+pub mod Scene
 pub mod Translation
+pub mod Turns

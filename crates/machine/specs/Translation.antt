@@ -11,6 +11,11 @@ use Rattle.lookup.specs.declared.access.AccessKey.{AccessKey}
 use Rattle.lookup.specs.declared.access.AccessAnswer.{AccessAnswer}
 use Rattle.lookup.specs.declared.page.PageKey.{PageKey}
 use Rattle.lookup.specs.declared.page.PageAnswer.{PageAnswer}
+use Rattle.machine.specs.declared.mode.Mode.{Mode}
+use Rattle.machine.specs.declared.mode.Mode.TheVariants.{DatOff, Primary, AccessRegister, Secondary, Home}
+use Rattle.machine.specs.declared.mode.AddressSize.{AddressSize}
+use Rattle.machine.specs.declared.mode.AddressSize.TheVariants.{Bits24, Bits31, Bits64}
+use Rattle.machine.specs.declared.sources.Operand.{Operand}
 use Rattle.machine.specs.Registers.{Registers}
 
 infixl 20 ◌>>=◌
@@ -30,18 +35,22 @@ is_store Fetch = false
 is_store Store = true
 
 -- the address's low 24, 31 or 64 bits
-abbrev pub cut : ℕ → ℕ → ℕ
-cut zero a = a % 2 ^ 24
-cut (suc zero) a = a % 2 ^ 31
-cut (suc (suc n)) a = a
+abbrev pub cut : AddressSize → ℕ → ℕ
+cut Bits24 a = a % 2 ^ 24
+cut Bits31 a = a % 2 ^ 31
+cut Bits64 a = a
+
+-- control register n
+abbrev pub control : Registers → ℕ → ℕ
+control r n = slice_index r.control n
 
 -- the doubleword with the access-list designation: 16 bytes into the dispatchable-unit control table, or, where
 -- bit 7 of the token is one, into the primary ASTE
 abbrev pub designation_address : Registers → ℕ → ℕ
-designation_address r alet = bits 33 57 (cond (bit 39 alet) r.control.c5 r.control.c2) * 2 ^ 6 + 16
+designation_address r alet = bits 33 57 (cond (bit 39 alet) (control r 5) (control r 2)) * 2 ^ 6 + 16
 
 abbrev pub access_key : Registers → ℕ → AccessKey
-access_key r alet = record { alet = alet; eax = bits 32 47 r.control.c8; designation = designation_address r alet }
+access_key r alet = record { alet = alet; eax = bits 32 47 (control r 8); designation = designation_address r alet }
 
 -- a space whose element a control register holds
 abbrev pub held_in : ℕ → Traced (Option AccessAnswer)
@@ -53,7 +62,7 @@ looked_up access_asks k = then (access_asks k) (λ a. given (Some a))
 
 -- the space of a token: 0 the primary, 1 the secondary, any other by lookup
 abbrev pub space_of_token : Registers → (AccessKey → Traced AccessAnswer) → ℕ → Traced (Option AccessAnswer)
-space_of_token r access_asks alet = cond (alet == 0) (held_in r.control.c1) (cond (alet == 1) (held_in r.control.c7) (looked_up access_asks (access_key r alet)))
+space_of_token r access_asks alet = cond (alet == 0) (held_in (control r 1)) (cond (alet == 1) (held_in (control r 7)) (looked_up access_asks (access_key r alet)))
 
 -- the key that a token asks the access-register source for
 abbrev pub token_asks : Registers → ℕ → Option AccessKey
@@ -61,32 +70,33 @@ token_asks r alet = cond (alet == 0) None (cond (alet == 1) None (Some (access_k
 
 -- access register 0 stands for the primary space, whatever it holds
 abbrev pub space_of_register : Registers → (AccessKey → Traced AccessAnswer) → ℕ → Traced (Option AccessAnswer)
-space_of_register r access_asks register = cond (register == 0) (held_in r.control.c1) (space_of_token r access_asks (slice_index r.access register))
+space_of_register r access_asks register = cond (register == 0) (held_in (control r 1)) (space_of_token r access_asks (slice_index r.access register))
 
 abbrev pub register_asks : Registers → ℕ → Option AccessKey
 register_asks r register = cond (register == 0) None (token_asks r (slice_index r.access register))
 
 -- the address space by mode, none with DAT off
-abbrev pub space_by_mode : ℕ → Registers → (AccessKey → Traced AccessAnswer) → ℕ → Traced (Option AccessAnswer)
-space_by_mode zero r access_asks register = given None
-space_by_mode (suc zero) r access_asks register = held_in r.control.c1
-space_by_mode (suc (suc zero)) r access_asks register = space_of_register r access_asks register
-space_by_mode (suc (suc (suc zero))) r access_asks register = held_in r.control.c7
-space_by_mode (suc (suc (suc (suc n)))) r access_asks register = held_in r.control.c13
+abbrev pub space_by_mode : Mode → Registers → (AccessKey → Traced AccessAnswer) → ℕ → Traced (Option AccessAnswer)
+space_by_mode DatOff r access_asks register = given None
+space_by_mode Primary r access_asks register = held_in (control r 1)
+space_by_mode AccessRegister r access_asks register = space_of_register r access_asks register
+space_by_mode Secondary r access_asks register = held_in (control r 7)
+space_by_mode Home r access_asks register = held_in (control r 13)
 
 -- only access-register mode asks the access-register source
-abbrev pub mode_asks : ℕ → Registers → ℕ → Option AccessKey
-mode_asks zero r register = None
-mode_asks (suc zero) r register = None
-mode_asks (suc (suc zero)) r register = register_asks r register
-mode_asks (suc (suc (suc n))) r register = None
+abbrev pub mode_asks : Mode → Registers → ℕ → Option AccessKey
+mode_asks DatOff r register = None
+mode_asks Primary r register = None
+mode_asks AccessRegister r register = register_asks r register
+mode_asks Secondary r register = None
+mode_asks Home r register = None
 
 -- addresses 0-1ff and 1000-11ff
 abbrev pub is_low : ℕ → Bool
 is_low a = nat_lt a 512 || (not (nat_lt a 4096) && nat_lt a 4608)
 
 abbrev pub low_protected : Registers → Access → ℕ → Bool
-low_protected r access a = is_store access && (is_low a && bit 35 r.control.c0)
+low_protected r access a = is_store access && (is_low a && bit 35 (control r 0))
 
 -- frame and last 12 bits make the real address
 abbrev pub real_address : ℕ → ℕ → ℕ
@@ -133,16 +143,17 @@ reached r view access real = do
   unless Key (key_protected r.key access (view.key (block_of real)))
   given real
 
-abbrev pub reach : Registers → (AccessKey → Traced AccessAnswer) → (PageKey → Traced PageAnswer) → View → Access → ℕ → ℕ → Traced ℕ
-reach r access_asks page_asks view access register a = do
-  space ← space_by_mode r.mode r access_asks register
-  unless LowAddress (low_protected r access a)
-  real ← real_of page_asks access space a
+abbrev pub reach : Registers → (AccessKey → Traced AccessAnswer) → (PageKey → Traced PageAnswer) → View → Access → Operand → Traced ℕ
+reach r access_asks page_asks view access o = do
+  space ← space_by_mode r.mode r access_asks o.register
+  unless LowAddress (low_protected r access (cut r.size o.address))
+  real ← real_of page_asks access space (cut r.size o.address)
   reached r view access real
 
--- the whole of a translation; its first two conditions are refusals, at which nothing is asked
-abbrev pub translation : Registers → (AccessKey → Traced AccessAnswer) → (PageKey → Traced PageAnswer) → View → Access → ℕ → ℕ → ℕ → Traced ℕ
-translation r access_asks page_asks view access register address places = do
-  unless BadNumber (nat_lt 15 register)
+-- the whole of a translation, with so many places for its list; its first two conditions are refusals, at which
+-- nothing is asked
+abbrev pub translation : Registers → (AccessKey → Traced AccessAnswer) → (PageKey → Traced PageAnswer) → View → Access → Operand → ℕ → Traced ℕ
+translation r access_asks page_asks view access o places = do
+  unless BadNumber (nat_lt 15 o.register)
   unless ShortList (nat_lt places 12)
-  reach r access_asks page_asks view access register (cut r.size address)
+  reach r access_asks page_asks view access o

@@ -2,14 +2,19 @@
 #![tactic(auto)]
 
 mod access;
+mod counted;
 mod load;
-mod machine;
+mod mode;
 mod reach;
 mod registers;
 mod request;
+mod sources;
 mod space;
 mod state;
+mod translate;
 
-pub use machine::Counted;
-pub use registers::{Control, Machine};
+pub use counted::Counted;
+pub use mode::{AddressSize, Mode};
+pub use registers::Machine;
 pub use request::{Outcome, Request};
+pub use sources::{Operand, Sources};
