@@ -1,91 +1,99 @@
 -- One changed record of a sparse storage is one changed doubleword of what it means.
-use Rattle.std.proofs.Common.{◌≡◌, ℕ, zero, suc, ◌<◌, Bool, true, false, cond, eqb, List, [], ◌∷◌, length, get_or, set, is_some, Some, None, Ok, Err, Option, sym, refl, ap, ◌∙◌, le_of_suc-le-suc, not-suc-le-zero, arith, eq-eqb, ne_eqb, eqb-true}
+use Rattle.std.proofs.Common.{◌≡◌, ℕ, ◌<◌, ◌≤◌, Bool, true, false, cond, eqb, ltb, List, [], ◌∷◌, length, get_or, set, slice_index_or, slice_set, is_some, Some, None, Ok, Err, Option, Result, sym, refl, arith}
+use Rattle.std.specs.List.{position_or_len}
+use Rattle.std.proofs.lemmas.Bool.{ltb-true, ltb-false, eqb-true}
+use Rattle.std.proofs.lemmas.Bool.Decides.{nat_tests}
 use mathlib.Core.Path.{fun_ext}
-use borrow.Author.Tests.{eqb-false, clash}
 use Rattle.std.specs.Option.{option_map}
 use Rattle.arch.specs.declared.record.Word.{Word}
 use Rattle.arch.specs.declared.record.BlockKey.{BlockKey}
+use Rattle.arch.specs.declared.condition.Condition.{Condition}
 use Rattle.arch.specs.declared.condition.Condition.TheVariants.{Addressing}
-use Rattle.storage.specs.Views.{View, block_of, stored, after_put, put_result}
-use Rattle.storage.specs.Records.{first, value_at, key_at, only_with, sparse_view}
+use Rattle.storage.specs.Views.{block_of, stored, after_put}
+use Rattle.storage.specs.Records.{value_at, key_at, only_with, sparse_view, with_value, words_after}
 
 abbrev none : Word
 none = record { address = 0; value = 0 }
 
--- no record before place i is of address a
-abbrev pub Before : List Word → ℕ → ℕ → Type 0
-Before ws a i = (k : ℕ) → k < i → (get_or ws k none).address ≡ a → ⊥
+abbrev place : List Word → ℕ → ℕ
+place ws a = position_or_len (λ w. eqb w.address a) ws
 
--- the record with another value
-abbrev pub changed : Word → ℕ → Word
-changed w x = record { address = w.address; value = x }
+-- the write at the first record of an address
+set_first : (ws : List Word) (a x : ℕ) → place ws a < length ws → set ws (place ws a) (record { address = (get_or ws (place ws a) none).address; value = x }) ≡ with_value ws a x
+set_first [] a x within = absurd (omega arith)
+set_first (w ∷ ws) a x within = let hyp = set_first ws a x in grind (arith, nat_tests, hyp)
 
-eqb_sym : (a b : ℕ) (t : Bool) → eqb a b ≡ t → eqb b a ≡ t
-eqb_sym a b true e = eq-eqb b a (sym (eqb-true a b e))
-eqb_sym a b false e = ne_eqb b a (λ same. eqb-false a b e (sym same))
+none_set : (ws : List Word) (a x : ℕ) → length ws ≤ place ws a → with_value ws a x ≡ ws
+none_set [] a x past = refl
+none_set (w ∷ ws) a x past = let hyp = none_set ws a x in grind (arith, nat_tests, hyp)
 
-set_here : (w : Word) (ws : List Word) (x b : ℕ) (t : Bool) → eqb w.address b ≡ t → value_at (changed w x ∷ ws) b ≡ cond (eqb b w.address) (Some x) (value_at (w ∷ ws) b)
-set_here w ws x b true e = ap (λ t. option_map (λ v. v.value) (cond t (Some (changed w x)) (first (λ v. eqb v.address b) ws))) e ∙ sym (ap (λ t. cond t (Some x) (value_at (w ∷ ws) b)) (eqb_sym w.address b true e))
-set_here w ws x b false e = ap (λ t. option_map (λ v. v.value) (cond t (Some (changed w x)) (first (λ v. eqb v.address b) ws))) e ∙ sym (ap (λ t. cond t (Some x) (value_at (w ∷ ws) b)) (eqb_sym w.address b false e) ∙ ap (λ t. option_map (λ v. v.value) (cond t (Some w) (first (λ v. eqb v.address b) ws))) e)
+has_first : (ws : List Word) (a : ℕ) → is_some (value_at ws a) ≡ ltb (place ws a) (length ws)
+has_first [] a = refl
+has_first (w ∷ ws) a = let hyp = has_first ws a in grind (arith, nat_tests, hyp)
 
-set_later : (w : Word) (ws after : List Word) (a x b : ℕ) (t : Bool) → (w.address ≡ a → ⊥) → eqb w.address b ≡ t → value_at after b ≡ cond (eqb b a) (Some x) (value_at ws b) → value_at (w ∷ after) b ≡ cond (eqb b a) (Some x) (value_at (w ∷ ws) b)
-set_later w ws after a x b true other e rest =
-    let apart : eqb b a ≡ false = ne_eqb b a (λ same. other (eqb-true w.address b e ∙ same)) in
-    ap (λ t. option_map (λ v. v.value) (cond t (Some w) (first (λ v. eqb v.address b) after))) e ∙ sym (ap (λ t. cond t (Some x) (value_at (w ∷ ws) b)) apart ∙ ap (λ t. option_map (λ v. v.value) (cond t (Some w) (first (λ v. eqb v.address b) ws))) e)
-set_later w ws after a x b false other e rest =
-    ap (λ t. option_map (λ v. v.value) (cond t (Some w) (first (λ v. eqb v.address b) after))) e ∙ rest ∙ sym (ap (λ t. cond (eqb b a) (Some x) (option_map (λ v. v.value) (cond t (Some w) (first (λ v. eqb v.address b) ws)))) e)
+value_with : (ws : List Word) (a x b : ℕ) → value_at (with_value ws a x) b ≡ cond (eqb b a) (option_map (λ _. x) (value_at ws a)) (value_at ws b)
+value_with [] a x b = grind (arith, nat_tests)
+value_with (w ∷ ws) a x b = let hyp = value_with ws a x b in grind (arith, nat_tests, hyp)
 
--- the first record of an address changed: that value, and no other
-pub value_set : (ws : List Word) (i a x : ℕ) → i < length ws → Before ws a i → (get_or ws i none).address ≡ a → (b : ℕ) → value_at (set ws i (changed (get_or ws i none) x)) b ≡ cond (eqb b a) (Some x) (value_at ws b)
-value_set [] i a x within before here b = absurd (not-suc-le-zero within)
-value_set (w ∷ ws) zero a x within before here b =
-    set_here w ws x b (eqb w.address b) refl ∙ ap (λ n. cond (eqb b n) (Some x) (value_at (w ∷ ws) b)) here
-value_set (w ∷ ws) (suc i) a x within before here b =
-    set_later w ws (set ws i (changed (get_or ws i none) x)) a x b (eqb w.address b) (before 0 (omega arith)) refl
-    (value_set ws i a x (le_of_suc-le-suc within) (λ k below. before (suc k) (omega arith)) here b)
+-- what comes of the search for the first record
+abbrev searched : List Word → ℕ → Option ℕ
+searched ws a = cond (ltb (place ws a) (length ws)) (Some (place ws a)) None
 
-pub found : (ws : List Word) (i a : ℕ) → i < length ws → Before ws a i → (get_or ws i none).address ≡ a → is_some (value_at ws a) ≡ true
-found [] i a within before here = absurd (not-suc-le-zero within)
-found (w ∷ ws) zero a within before here = ap (λ t. is_some (option_map (λ v. v.value) (cond t (Some w) (first (λ v. eqb v.address a) ws)))) (eq-eqb w.address a here)
-found (w ∷ ws) (suc i) a within before here =
-    ap (λ t. is_some (option_map (λ v. v.value) (cond t (Some w) (first (λ v. eqb v.address a) ws)))) (ne_eqb w.address a (before 0 (omega arith))) ∙ found ws i a (le_of_suc-le-suc within) (λ k below. before (suc k) (omega arith)) here
+abbrev Put : List Word → ℕ → ℕ → Result (Unit {0}) Condition → List Word → Type 0
+Put ws a x result after = record { result : result ≡ cond (is_some (value_at ws a)) (Ok tt) (Err Addressing); after : after ≡ with_value ws a x }
 
-pub missing : (ws : List Word) (a : ℕ) → Before ws a (length ws) → value_at ws a ≡ None
-missing [] a before = refl
-missing (w ∷ ws) a before =
-    ap (λ t. option_map (λ v. v.value) (cond t (Some w) (first (λ v. eqb v.address a) ws))) (ne_eqb w.address a (before 0 (omega arith))) ∙ missing ws a (λ k below. before (suc k) (omega arith))
+pub put_found : (ws : List Word) (a x i : ℕ) → Some i ≡ searched ws a → Put ws a x (Ok tt) (slice_set ws i (record { address = (slice_index_or ws i none).address; value = x }))
+put_found ws a x i found = by (ltb (place ws a) (length ws)) refl
+  where
+    by : (t : Bool) → t ≡ ltb (place ws a) (length ws) → Put ws a x (Ok tt) (slice_set ws i (record { address = (slice_index_or ws i none).address; value = x }))
+    by true e =
+        let has = has_first ws a in
+        let here : i ≡ place ws a = cc in
+        let within = ltb-true (place ws a) (length ws) (sym e) in
+        record { result = cc; after = rw here (set_first ws a x within) }
+    by false e = absurd cc
 
-with_key : {A : Type 0} (k : Option ℕ) (v : Option A) → is_some k ≡ true → only_with k v ≡ v
-with_key None v h = absurd (clash h)
-with_key (Some k) v h = refl
+pub put_missing : (ws : List Word) (a x : ℕ) → None ≡ searched ws a → Put ws a x (Err Addressing) ws
+put_missing ws a x missing = by (ltb (place ws a) (length ws)) refl
+  where
+    by : (t : Bool) → t ≡ ltb (place ws a) (length ws) → Put ws a x (Err Addressing) ws
+    by true e = absurd cc
+    by false e =
+        let has = has_first ws a in
+        record { result = cc; after = sym (none_set ws a x (ltb-false (place ws a) (length ws) (sym e))) }
 
-word_put : (k : Option ℕ) (v w : Option ℕ) (x : ℕ) (t : Bool) → (t ≡ true → is_some k ≡ true) → w ≡ cond t (Some x) v → only_with k w ≡ cond t (Some x) (only_with k v)
-word_put k v w x true keyed e = with_key k w (keyed refl) ∙ e
-word_put k v w x false keyed e = ap (only_with k) e
+word_with : (k v : Option ℕ) (x : ℕ) → is_some (only_with k v) ≡ true → only_with k (option_map (λ _. x) v) ≡ Some x
+word_with None v x e = absurd cc
+word_with (Some k) None x e = absurd cc
+word_with (Some k) (Some v) x e = refl
 
--- the whole of a put that finds its record
-module _ (ws : List Word) (ks : List BlockKey) (i a x : ℕ) (within : i < length ws) (before : Before ws a i) (here : (get_or ws i none).address ≡ a) (key : is_some (key_at ks (block_of a)) ≡ true) where
-  present : is_some ((sparse_view ws ks).word a) ≡ true
-  present = ap is_some (with_key (key_at ks (block_of a)) (value_at ws a) key) ∙ found ws i a within before here
+-- the records of a put that has a key for its block
+pub words_put : (ws : List Word) (ks : List BlockKey) (a x : ℕ) → is_some (key_at ks (block_of a)) ≡ true → with_value ws a x ≡ words_after ws ks a x
+words_put ws ks a x keyed = by (key_at ks (block_of a)) (value_at ws a) refl keyed
+  where
+    by : (k v : Option ℕ) → v ≡ value_at ws a → is_some k ≡ true → with_value ws a x ≡ cond (is_some (only_with k v)) (with_value ws a x) ws
+    by None v e h = absurd cc
+    by (Some k) (Some v) e h = refl
+    by (Some k) None e h = let has = has_first ws a in none_set ws a x (ltb-false (place ws a) (length ws) cc)
 
-  pub put_done : sparse_view (set ws i (changed (get_or ws i none) x)) ks ≡ after_put (sparse_view ws ks) a x
-  put_done =
-      (λ j. record {
-        word = fun_ext (λ b. word_put (key_at ks (block_of b)) (value_at ws b) (value_at (set ws i (changed (get_or ws i none) x)) b) x (eqb b a) (λ same. ap (λ n. is_some (key_at ks (block_of n))) (eqb-true b a same) ∙ key) (value_set ws i a x within before here b)) j;
-        key = key_at ks;
-      }) ∙ sym (ap (λ t. cond t (stored (sparse_view ws ks) a x) (sparse_view ws ks)) present)
+word_after : (ws : List Word) (ks : List BlockKey) (a x b : ℕ) → (sparse_view (words_after ws ks a x) ks).word b ≡ (after_put (sparse_view ws ks) a x).word b
+word_after ws ks a x b = by (is_some ((sparse_view ws ks).word a)) refl
+  where
+    by : (t : Bool) → t ≡ is_some ((sparse_view ws ks).word a) → only_with (key_at ks (block_of b)) (value_at (cond t (with_value ws a x) ws) b) ≡ (cond t (stored (sparse_view ws ks) a x) (sparse_view ws ks)).word b
+    by false e = refl
+    by true e = rw (value_with ws a x b) (at_b (eqb b a) refl)
+      where
+        at_b : (u : Bool) → u ≡ eqb b a → only_with (key_at ks (block_of b)) (cond u (option_map (λ _. x) (value_at ws a)) (value_at ws b)) ≡ cond u (Some x) (only_with (key_at ks (block_of b)) (value_at ws b))
+        at_b false f = refl
+        at_b true f = rw (eqb-true b a (sym f)) (word_with (key_at ks (block_of a)) (value_at ws a) x (sym e))
 
-  pub put_said : Ok tt ≡ put_result (sparse_view ws ks) a
-  put_said = sym (ap (λ t. cond t (Ok tt) (Err Addressing)) present)
+pub view_after : (ws : List Word) (ks : List BlockKey) (a x : ℕ) → sparse_view (words_after ws ks a x) ks ≡ after_put (sparse_view ws ks) a x
+view_after ws ks a x = by (is_some ((sparse_view ws ks).word a)) (λ b. word_after ws ks a x b)
+  where
+    by : (t : Bool) → ((b : ℕ) → only_with (key_at ks (block_of b)) (value_at (cond t (with_value ws a x) ws) b) ≡ (cond t (stored (sparse_view ws ks) a x) (sparse_view ws ks)).word b) → sparse_view (cond t (with_value ws a x) ws) ks ≡ cond t (stored (sparse_view ws ks) a x) (sparse_view ws ks)
+    by true words = λ j. record { word = fun_ext words j; key = key_at ks }
+    by false words = λ j. record { word = fun_ext words j; key = key_at ks }
 
--- a put that finds none, for want of a value or of a key
-pub put_not : (v : View) (a x : ℕ) → v.word a ≡ None → (v ≡ after_put v a x) × (Err Addressing ≡ put_result v a)
-put_not v a x absent =
-    (sym (ap (λ o. cond (is_some o) (stored v a x) v) absent), sym (ap (λ o. cond (is_some o) (Ok tt) (Err Addressing)) absent))
-
-no_value : (k : Option ℕ) → only_with {A = ℕ} k None ≡ None
-no_value None = refl
-no_value (Some k) = refl
-
-pub no_record : (ws : List Word) (ks : List BlockKey) (a : ℕ) → Before ws a (length ws) → (sparse_view ws ks).word a ≡ None
-no_record ws ks a before = ap (only_with (key_at ks (block_of a))) (missing ws a before) ∙ no_value (key_at ks (block_of a))
+-- a refused put changes no record
+pub refused_after : (ws : List Word) (ks : List BlockKey) (a x : ℕ) → (sparse_view ws ks).word a ≡ None → words_after ws ks a x ≡ ws
+refused_after ws ks a x absent = rw absent refl

@@ -1,5 +1,5 @@
 -- What a storage means.
-use Rattle.std.specs.Prelude.{◌≡◌, ℕ, ◌/◌, ◌<◌, cond, is_some, Some, Ok, Err, Option, Result, ◌==◌}
+use Rattle.std.specs.Prelude.{◌≡◌, ℕ, ◌/◌, ◌<◌, true, cond, is_some, Some, Ok, Err, Option, Result, ◌==◌}
 use Rattle.arch.specs.declared.condition.Condition.{Condition}
 use Rattle.arch.specs.declared.condition.Condition.TheVariants.{Addressing}
 
@@ -13,9 +13,10 @@ pub record View : Type 0 where
 abbrev pub block_of : ℕ → ℕ
 block_of a = a / 4096
 
--- a present doubleword's block has a key, 0 to 1f
-abbrev pub Keyed : View → Type 0
-Keyed v = (a x : ℕ) → v.word a ≡ Some x → (k : ℕ) × ((v.key (block_of a) ≡ Some k) × (k < 32))
+-- a present doubleword's block has a key, and every key is 0 to 1f
+pub record Keyed (v : View) : Type 0 where
+  pub present : (a x : ℕ) → v.word a ≡ Some x → is_some (v.key (block_of a)) ≡ true
+  pub in_range : (b k : ℕ) → v.key b ≡ Some k → k < 32
 
 -- one value set, all else as it was
 abbrev pub stored : View → ℕ → ℕ → View

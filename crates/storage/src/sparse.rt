@@ -1,9 +1,11 @@
 // The sparse storage: lent records of values and of block keys.
-ghost use Rattle.std.specs.Prelude.{◌≡◌};
+ghost use Rattle.std.specs.Prelude.{◌≡◌, is_some, if◌then◌else◌, None, Ok, Err};
+ghost use Rattle.arch.specs.declared.condition.Condition.TheVariants.{Addressing};
 ghost use Rattle.storage.specs.Keyed.{sparse_keyed};
-ghost use Rattle.storage.specs.Records.{value_at, key_at, sparse_view};
+ghost use Rattle.storage.specs.Records.{value_at, listed_key, key_at, with_value, words_after, sparse_view};
+ghost use Rattle.storage.specs.Views.{after_put, put_result};
 
-use crate::storage::Storage;
+use crate::storage::{BLOCK_BYTES, Storage};
 use arch::condition::Condition;
 use arch::record::{BlockKey, Word};
 
@@ -17,28 +19,40 @@ pub struct Sparse<'w, 'k> {
 fn first_value(words: &[Word], address: u64) -> Option<u64>
     ensures { result ≡ value_at words.now address }
 {
-    for word in words {
-        if word.address == address {
-            return Some(word.value);
-        }
-    }
-    None
+    words
+        .iter()
+        .find(|word| word.address == address)
+        .map(|word| word.value)
 }
 
-// The key of the first record of `block`. A key above 1f counts as none, whatever comes later.
+// The key of the first record of `block`, whatever it is.
+fn listed_key(keys: &[BlockKey], block: u64) -> Option<u8>
+    ensures { result ≡ listed_key keys.now block }
+{
+    keys.iter()
+        .find(|entry| entry.block == block)
+        .map(|entry| entry.key)
+}
+
+// The same, where it is a key: above 1f it counts as none, whatever comes later.
 fn first_key(keys: &[BlockKey], block: u64) -> Option<u8>
     ensures { result ≡ key_at keys.now block }
 {
-    for entry in keys {
-        if entry.block == block {
-            return if entry.key < 32 {
-                Some(entry.key)
-            } else {
-                None
-            };
+    listed_key(keys, block).filter(|key| *key < 32)
+}
+
+// Sets the value of the first record of `address`, and changes no other record.
+fn set_value(words: &mut [Word], address: u64, value: u64) -> Result<(), Condition>
+    ensures result { result ≡ (if is_some (value_at words.old address) then Ok tt else Err Addressing) }
+    ensures after { words.new ≡ with_value words.old address value }
+{
+    match words.iter().position(|word| word.address == address) {
+        Some(at) => {
+            words[at].value = value;
+            Ok(())
         }
+        None => Err(Condition::Addressing),
     }
-    None
 }
 
 impl Storage for Sparse<'_, '_> {
@@ -47,7 +61,7 @@ impl Storage for Sparse<'_, '_> {
     ghost keyed = { λ s. sparse_keyed s.words.now s.keys.now };
 
     fn fetch(&self, address: u64) -> Option<u64> {
-        first_key(self.keys, address / 4096)?;
+        first_key(self.keys, address / BLOCK_BYTES)?;
         first_value(self.words, address)
     }
 
@@ -55,16 +69,17 @@ impl Storage for Sparse<'_, '_> {
         first_key(self.keys, block)
     }
 
-    fn put(&mut self, address: u64, value: u64) -> Result<(), Condition> {
-        if first_key(self.keys, address / 4096).is_none() {
-            return Err(Condition::Addressing);
-        }
-        for word in self.words.iter_mut() {
-            if word.address == address {
-                word.value = value;
-                return Ok(());
-            }
-        }
-        Err(Condition::Addressing)
+    // Only the first record of the address changes, and none where the put is refused.
+    fn put(&mut self, address: u64, value: u64) -> Result<(), Condition>
+        ensures result { result ≡ put_result (sparse_view self.old.words.now self.old.keys.now) address }
+        ensures after { sparse_view self.new.words.now self.new.keys.now
+            ≡ after_put (sparse_view self.old.words.now self.old.keys.now) address value }
+        ensures refused { (sparse_view self.old.words.now self.old.keys.now).word address ≡ None
+            → self.new ≡ self.old }
+        ensures words { self.new.words.now ≡ words_after self.old.words.now self.old.keys.now address value }
+        ensures keys { self.new.keys ≡ self.old.keys }
+    {
+        first_key(self.keys, address / BLOCK_BYTES).ok_or(Condition::Addressing)?;
+        set_value(self.words, address, value)
     }
 }

@@ -1,14 +1,17 @@
 // What a storage is: doublewords at addresses, and keys of blocks.
-ghost use Rattle.std.specs.Prelude.{◌≡◌};
+ghost use Rattle.std.specs.Prelude.{◌≡◌, ◌/◌, None};
 ghost use Rattle.storage.specs.Views.{View, Keyed, after_put, put_result};
 
 use arch::condition::Condition;
+
+// The bytes of a block, which has one key.
+pub const BLOCK_BYTES: u64 = 4096;
 
 pub trait Storage {
     // Which doublewords are present, their values, and the key of each block that has one.
     ghost view: { Self → View };
 
-    // A present doubleword's block has a key, 0 to 1f.
+    // A present doubleword's block has a key, and every key is 0 to 1f.
     ghost keyed: { (s : Self) → Keyed (view s) };
 
     // The value of the doubleword at `address`, or None where it is absent.
@@ -22,5 +25,6 @@ pub trait Storage {
     // Sets the value of a present doubleword; refuses an absent one and changes nothing.
     fn put(&mut self, address: u64, value: u64) -> Result<(), Condition>
         ensures result { result ≡ put_result (view self.old) address }
-        ensures after { view self.new ≡ after_put (view self.old) address value };
+        ensures after { view self.new ≡ after_put (view self.old) address value }
+        ensures refused { (view self.old).word address ≡ None → self.new ≡ self.old };
 }
