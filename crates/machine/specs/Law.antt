@@ -166,8 +166,8 @@ real_seen n access o places =
 -- and in presence and key of the doubleword that it reaches
 pub record Alike (m n : Scene) (access : Access) (o : Operand) (places : ℕ) : Type 0 where
   pub registers : m.registers ≡ n.registers
-  pub access : (k : AccessKey) → (translates access o places).access_key m ≡ Some k → m.shown.access k ≡ n.shown.access k
-  pub page : (k : PageKey) → (translates access o places).page_key m ≡ Some k → m.shown.page k ≡ n.shown.page k
+  pub access_shown : (k : AccessKey) → (translates access o places).access_key m ≡ Some k → m.shown.access k ≡ n.shown.access k
+  pub page_shown : (k : PageKey) → (translates access o places).page_key m ≡ Some k → m.shown.page k ≡ n.shown.page k
   pub listed : Agree m.real.word n.real.word ((translates access o places).gives m).trace
   pub present : (real : ℕ) → (real_seen m access o places).result ≡ Ok real → is_some (m.real.word (real / 8 * 8)) ≡ is_some (n.real.word (real / 8 * 8))
   pub key : (real : ℕ) → (real_seen m access o places).result ≡ Ok real → m.real.key (block_of real) ≡ n.real.key (block_of real)

@@ -1,9 +1,10 @@
--- Puts at real addresses.
-use Rattle.std.specs.Prelude.{ℕ, ◌%◌, cond, Some, None, Ok, Err, Option, Result, ◌==◌}
+-- Puts at real addresses, and the prefix layer after a call.
+use Rattle.std.specs.Prelude.{◌≡◌, ℕ, ◌%◌, Bool, cond, MatchBool, Some, None, Ok, Err, Option, Result, ◌==◌}
 use Rattle.arch.specs.declared.condition.Condition.{Condition}
 use Rattle.arch.specs.declared.condition.Condition.TheVariants.{Unaligned}
 use Rattle.arch.specs.declared.record.Word.{Word}
-use Rattle.storage.specs.Prefixes.{exchange}
+use Rattle.storage.specs.declared.prefix.Prefixed.{Prefixed}
+use Rattle.storage.specs.Prefixes.{absolute}
 use Rattle.storage.specs.Views.{View, after_put, put_result}
 
 -- a put is refused at what is no multiple of 8, before everything
@@ -27,4 +28,8 @@ after_puts (Some w) v = after_put v w.address w.value
 -- the storage beneath a prefix after a put at a real address
 abbrev pub after_puts_under : ℕ → Option Word → View → View
 after_puts_under prefix None v = v
-after_puts_under prefix (Some w) v = after_put v (exchange 8192 prefix w.address) w.value
+after_puts_under prefix (Some w) v = after_put v (absolute prefix w.address) w.value
+
+-- the layer is as it was where the call is refused, and else stands at this prefix
+abbrev pub LayerAfter : {S : Type 0} → Bool → ℕ → Prefixed S → Prefixed S → Type 0
+LayerAfter refused prefix before after = MatchBool refused (after ≡ before) (after.prefix ≡ prefix)

@@ -16,7 +16,7 @@ use Rattle.machine.specs.Scene.{AccessSource, PageSource}
 -- a source that is asked for this key, or for none: the key has the widths that it is spelt with, the source is what
 -- its make says, and it holds no more than before and what is fresh
 pub record Asked {Key Answer S : Type 0} (fits : Key → Type 0) (fresh : Key → Traced Answer) (holds : S → Key → Answer → Type 0) (after_ask : S → (Key → Traced Answer) → Key → S → Type 0) (key : Option Key) (before after : S) : Type 0 where
-  pub fits : (k : Key) → key ≡ Some k → fits k
+  pub widths : (k : Key) → key ≡ Some k → fits k
   pub becomes : Moved key (after_ask before fresh) before after
   pub keeps : Kept fits fresh (holds before) (holds after)
 

@@ -1,5 +1,5 @@
 // The calls of a machine as values, and what comes of them.
-use crate::machine::Counted;
+use crate::counted::Counted;
 use arch::call::Call;
 use arch::condition::Condition;
 

@@ -1,9 +1,0 @@
-pub mod Accesses
-pub mod Alike
-pub mod Few
-pub mod Fresh
-pub mod InOrder
-pub mod Results
-pub mod Sound
-pub mod Steps
-pub mod Whole

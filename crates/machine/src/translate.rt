@@ -1,0 +1,65 @@
+// Translation, as a call.
+ghost use Rattle.std.specs.Prelude.{◌≡◌, length};
+ghost use Rattle.machine.specs.Calls.{Makes, translates, refuses_translation};
+ghost use Rattle.machine.specs.Law.{Alike, AnswersAlike, AnswersFresh};
+ghost use Rattle.machine.specs.Orders.{OrderedOverBare, real_found, translation_conditions};
+ghost use Rattle.machine.specs.Puts.{LayerAfter};
+ghost use Rattle.machine.specs.Scene.{Scene, held, scene};
+ghost use Rattle.storage.specs.Prefixes.{prefixed};
+
+use crate::counted::Counted;
+use crate::registers::Machine;
+use crate::sources::{Operand, Sources};
+use arch::call::Access;
+use arch::condition::Condition;
+use lookup::kinds::{AccessRegister, Paging};
+use lookup::source::Source;
+use lookup::trace::Trace;
+use storage::prefix::Prefixed;
+use storage::storage::Storage;
+
+impl Machine {
+    // Translates an address, for a fetch or a store, by an access register. The addresses asked for are
+    // written to the first places of the list. With sources that show nothing it comes to an address exactly
+    // where no condition of its table applies, and else to the first that does.
+    pub fn translate<S: Storage, A: Source<AccessRegister>, P: Source<Paging>>(
+        &mut self,
+        storage: &mut Prefixed<S>,
+        sources: &mut Sources<A, P>,
+        access: Access,
+        operand: Operand,
+        list: &mut [u64],
+    ) -> Counted<u64>
+        ensures makes { Makes A.Source P.Source (translates access operand (length list.old))
+            (scene S.Storage A.Source P.Source self.old storage.old sources.old)
+            sources.old list.old result sources.new list.new }
+        ensures registers { self.new ≡ self.old }
+        ensures storage { storage.new.beneath ≡ storage.old.beneath }
+        ensures layer { LayerAfter (refuses_translation operand (length list.old)) self.old.prefix
+            storage.old storage.new }
+        ensures order { OrderedOverBare (scene S.Storage A.Source P.Source self.old storage.old sources.old)
+            (translation_conditions self.old (prefixed self.old.prefix (S.view storage.old.beneath)) access operand
+                (length list.old))
+            (real_found self.old (prefixed self.old.prefix (S.view storage.old.beneath)) access operand)
+            result.result }
+        ensures law { AnswersFresh (translates access operand (length list.old))
+            (scene S.Storage A.Source P.Source self.old storage.old sources.old) result.result
+            (held A.Source P.Source sources.old) (held A.Source P.Source sources.new) }
+        ensures alike { (n : Scene)
+            → Alike (scene S.Storage A.Source P.Source self.old storage.old sources.old) n
+                access operand (length list.old)
+            → AnswersAlike (scene S.Storage A.Source P.Source self.old storage.old sources.old) n
+                access operand (length list.old) }
+    {
+        if operand.register > 15 {
+            return Counted::refused(Condition::BadNumber);
+        }
+        if list.len() < 12 {
+            return Counted::refused(Condition::ShortList);
+        }
+        storage.load_prefix(self.prefix);
+        let mut trace = Trace::new();
+        let real = self.reach(storage, sources, access, operand, &mut trace);
+        Counted::of(real, &trace, list)
+    }
+}
