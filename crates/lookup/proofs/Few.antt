@@ -1,5 +1,5 @@
 -- An access-register lookup fetches at most seven doublewords, a page lookup at most five.
-use Rattle.std.proofs.Common.{◌≡◌, ℕ, zero, suc, ◌+◌, ◌≤◌, Bool, true, false, cond, not, ◌||◌, eqb, subst, arith}
+use Rattle.std.proofs.Common.{◌≡◌, ℕ, length, Option, zero, suc, ◌+◌, ◌≤◌, Bool, true, false, cond, not, ◌||◌, eqb, subst, arith}
 use Rattle.arch.specs.Bits.{bits, bit}
 use Rattle.arch.specs.declared.condition.Condition.TheVariants.{AlenTranslation, AleSequence, TranslationSpecification, PageTranslation}
 use Rattle.arch.specs.Walks.{answers}
@@ -8,6 +8,7 @@ use Rattle.lookup.specs.declared.access.AccessKey.{AccessKey}
 use Rattle.lookup.specs.declared.page.PageKey.{PageKey}
 use Rattle.lookup.specs.declared.page.Table.{Table}
 use Rattle.lookup.specs.Access.{access_limit, token_bits, locate, entry_first, entry, aste_first, aste_sequence, aste, secondary, asks_authority, authorized, access_walk}
+use Rattle.lookup.specs.Lookups.{access_fresh, page_fresh}
 use Rattle.lookup.specs.Pages.{page_limit, level_condition, table_below, table_of, valid_entry, table_entry, page_entry, descend, first_level, through_tables, page_walk}
 
 module _ (k : AccessKey) where
@@ -67,3 +68,12 @@ page_few k = by (bit 58 k.asce)
     by : (t : Bool) → Few page_limit 5 (cond t (answers (record { frame = k.page; protect = false })) (through_tables k.asce k.page))
     by true = record { few = λ word. omega arith }
     by false = record { few = λ word. omega (arith, (through_few k.asce k.page).few word, first_level_small k.asce) }
+
+-- so of both, walked afresh
+pub access_fresh_few : (word : ℕ → Option ℕ) (k : AccessKey) → length (access_fresh word k).trace ≤ 7
+unfolding access_fresh
+access_fresh_few word k = (access_few k).few word
+
+pub page_fresh_few : (word : ℕ → Option ℕ) (k : PageKey) → length (page_fresh word k).trace ≤ 5
+unfolding page_fresh
+page_fresh_few word k = (page_few k).few word
