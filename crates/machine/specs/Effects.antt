@@ -15,6 +15,9 @@ use Rattle.storage.specs.Prefixes.{lawful_prefix}
 use Rattle.storage.specs.Views.{View}
 use Rattle.lookup.specs.declared.access.AccessKey.{AccessKey}
 use Rattle.lookup.specs.declared.page.PageKey.{PageKey}
+use Rattle.lookup.specs.Access.{AccessFits}
+use Rattle.lookup.specs.Lookups.{access_fresh, page_fresh}
+use Rattle.lookup.specs.Spelling.{PageFits}
 use Rattle.machine.specs.declared.counted.Counted.{Counted}
 use Rattle.machine.specs.declared.request.Outcome.{Outcome}
 use Rattle.machine.specs.declared.request.Outcome.TheVariants as outcome
@@ -26,7 +29,7 @@ use Rattle.machine.specs.Calls.{Translating, translates, accesses, fetches, stor
 use Rattle.machine.specs.Puts.{put_answer, put_of, stored_by, after_puts_under}
 use Rattle.machine.specs.Registers.{Registers, load_result, with_access, with_control, with_mode}
 use Rattle.machine.specs.Scene.{AccessSource, PageSource, Scene, scene}
-use Rattle.machine.specs.Turns.{AsksAccess, AsksPage, Emptied}
+use Rattle.machine.specs.Turns.{Asked, Emptied}
 
 -- a source over a call is purged, or asked for a key, or left
 pub data Turn (Key : Type 0) : Type 0 where
@@ -95,15 +98,16 @@ effect_of (request.Store register address x) n =
     { puts = stored_by ((accesses Store (record { register = register; address = address }) places).gives n).result x }
 
 -- what a turn does to a source
+abbrev pub Turns : {Key Answer S : Type 0} → (Key → Type 0) → (Key → Traced Answer) → (S → Key → Answer → Type 0) → (S → (Key → Traced Answer) → Key → S → Type 0) → (S → S → Type 0) → Turn Key → S → S → Type 0
+Turns fits fresh holds after_ask after_purge purged before after = Emptied holds after_purge before after
+Turns fits fresh holds after_ask after_purge (asked_for k) before after = Asked fits fresh holds after_ask (Some k) before after
+Turns fits fresh holds after_ask after_purge left before after = Asked fits fresh holds after_ask None before after
+
 abbrev pub TurnsAccess : {A : Type 0} → AccessSource A → View → Turn AccessKey → A → A → Type 0
-TurnsAccess a real purged before after = Emptied a.holds a.after_purge before after
-TurnsAccess a real (asked_for k) before after = AsksAccess a real (Some k) before after
-TurnsAccess a real left before after = AsksAccess a real None before after
+TurnsAccess a real turn before after = Turns AccessFits (access_fresh real.word) a.holds a.after_ask a.after_purge turn before after
 
 abbrev pub TurnsPage : {P : Type 0} → PageSource P → View → Turn PageKey → P → P → Type 0
-TurnsPage p real purged before after = Emptied p.holds p.after_purge before after
-TurnsPage p real (asked_for k) before after = AsksPage p real (Some k) before after
-TurnsPage p real left before after = AsksPage p real None before after
+TurnsPage p real turn before after = Turns PageFits (page_fresh real.word) p.holds p.after_ask p.after_purge turn before after
 
 module _ {S A P : Type 0} (s : StorageGhosts S) (a : AccessSource A) (p : PageSource P) (c : Request) (r : Registers) (t : Prefixed S) (b : Sources A P) where
   abbrev pub sees : Scene

@@ -1,3 +1,3 @@
-mod Far
-mod Lawful
-mod Stands
+pub mod Far
+pub mod Stands
+pub mod Turned

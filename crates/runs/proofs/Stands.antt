@@ -1,115 +1,129 @@
 -- Where a machine and its sources stand from call to call.
-use Rattle.std.proofs.Common.{◌≡◌, ℕ, zero, suc, ◌^◌, ◌<◌, Bool, true, false, cond, not, ◌||◌, ltb, List, [], ◌∷◌, get_or, set, replicate, Some, None, MatchBool, Option, unwrap_or, sym, refl, subst₂, arith, ltb-true}
-use borrow.Author.Tests.{clash}
-use Rattle.arch.specs.declared.call.Call.{Call}
+use Rattle.std.proofs.Common.{◌≡◌, ℕ, List, [], ◌∷◌, Some, None, Option, refl, ap, sym, subst₂}
+use Rattle.arch.specs.declared.call.Access.{Access}
+use Rattle.arch.specs.declared.call.Access.TheVariants.{Store}
 use Rattle.arch.specs.declared.call.Call.TheVariants as call
-use Rattle.arch.specs.declared.call.SourceName.TheVariants as named
+use Rattle.arch.specs.declared.call.SourceName.TheVariants.{AccessRegister, Page}
+use Rattle.arch.specs.Walks.{Traced}
+use Rattle.storage.specs.Prefixes.{prefixed}
 use Rattle.storage.specs.Views.{View}
-use Rattle.storage.specs.Prefixes.{lawful_prefix}
-use Rattle.lookup.specs.declared.access.AccessKey.{AccessKey}
 use Rattle.lookup.specs.declared.access.AccessAnswer.{AccessAnswer}
-use Rattle.lookup.specs.declared.page.PageKey.{PageKey}
+use Rattle.lookup.specs.declared.access.AccessKey.{AccessKey}
 use Rattle.lookup.specs.declared.page.PageAnswer.{PageAnswer}
+use Rattle.lookup.specs.declared.page.PageKey.{PageKey}
 use Rattle.lookup.specs.Access.{AccessFits}
 use Rattle.lookup.specs.Lookups.{access_fresh, page_fresh}
-use Rattle.lookup.specs.Sources.{Kept, Empty}
 use Rattle.lookup.specs.Spelling.{PageFits}
-use Rattle.machine.specs.declared.registers.Control.{Control}
 use Rattle.machine.specs.declared.request.Outcome.{Outcome}
+use Rattle.machine.specs.declared.request.Outcome.TheVariants as outcome
 use Rattle.machine.specs.declared.request.Request.{Request}
 use Rattle.machine.specs.declared.request.Request.TheVariants as request
-use Rattle.machine.specs.Calls.{control_set, with_control, with_prefix, zero_registers}
-use Rattle.machine.specs.Registers.{Registers}
-use Rattle.machine.specs.Runs.{Shown, real_view, outcome_of, line_registers, registers_after, view_after, purges}
-use Rattle.machine.specs.Law.{State, Bounded, Stands, KeepsLaw, seen_now, arts_since, pages_since, start, next}
-use Rattle.runs.proofs.Lawful.{now_of}
-use Rattle.machine.proofs.Sound.{sound_empty, sound_next, sound_shown}
+use Rattle.machine.specs.declared.sources.Sources.{Sources}
+use Rattle.machine.specs.Calls.{Translating, accesses, fetches, stores, translates}
+use Rattle.machine.specs.Effects.{Turn, Turns, purged, asked_for, left, turn_of, effect_of, TurnsAccess, TurnsPage}
+use Rattle.machine.specs.Law.{AreUnchanged, FreshNow, IsUnchanged, KeepsLaw, Once, ShowFreshOnce, Sound, Stands, State, Unchanged, uncounted, moments_after, next, scene_at, seen_now, since, start}
+use Rattle.machine.specs.Puts.{after_puts_under, stored_by}
+use Rattle.machine.specs.Registers.{Registers, zero_registers}
+use Rattle.machine.specs.Scene.{AccessSource, PageSource, Scene, bare, held, seen, shown, unshown}
+use Rattle.machine.specs.Turns.{Asked, EmptiesBoth}
+use Rattle.machine.proofs.Fresh.{accesses_same, fetches_same, stores_same, translates_same}
+use Rattle.machine.proofs.Sound.{sound_empty, sound_kept, sound_later, sound_shown}
+use Rattle.runs.proofs.Turned.{asked, operand}
 
--- access registers stay in 32 bits
-zeros : (n i : ℕ) → ◌≡◌ {A = ℕ} (get_or (replicate n 0) i 0) 0
-zeros zero i = refl
-zeros (suc n) zero = refl
-zeros (suc n) (suc i) = zeros n i
+-- what a source holds after its turn was fresh once
+module _ {Key Answer S : Type 0} (fits : Key → Type 0) (fresh : (ℕ → Option ℕ) → Key → Traced Answer) (holds : S → Key → Answer → Type 0) (after_ask : S → (Key → Traced Answer) → Key → S → Type 0) (after_purge : S → S → Type 0) (now new : ℕ → Option ℕ) (earlier : List (ℕ → Option ℕ)) (before after : S) where
+  sound_asked : (key : Option Key) → Asked fits (fresh now) holds after_ask key before after → Sound fits fresh (now ∷ earlier) (holds before) → Sound fits fresh (new ∷ now ∷ earlier) (holds after)
+  sound_asked key asks sound = sound_later fits fresh new (now ∷ earlier) (holds after) (sound_kept fits fresh now earlier (holds before) (holds after) asks.keeps sound)
 
-pub zero_bounded : Bounded zero_registers
-zero_bounded i = rw (zeros 16 i) (omega arith)
+  sound_turned : (turn : Turn Key) → Turns fits (fresh now) holds after_ask after_purge turn before after → Sound fits fresh (now ∷ earlier) (holds before) → Sound fits fresh (new ∷ moments_after turn (now ∷ earlier)) (holds after)
+  sound_turned purged emptied sound = sound_empty fits fresh (new ∷ []) (holds after) emptied.empty
+  sound_turned (asked_for k) asks sound = sound_asked (Some k) asks sound
+  sound_turned left asks sound = sound_asked None asks sound
 
-set_bounded : (l : List ℕ) (n v : ℕ) → ((i : ℕ) → get_or l i 0 < 2 ^ 32) → v < 2 ^ 32 → (i : ℕ) → get_or (set l n v) i 0 < 2 ^ 32
-set_bounded [] n v small low i = small i
-set_bounded (x ∷ l) zero v small low zero = low
-set_bounded (x ∷ l) zero v small low (suc i) = small (suc i)
-set_bounded (x ∷ l) (suc n) v small low zero = small 0
-set_bounded (x ∷ l) (suc n) v small low (suc i) = set_bounded l n v (λ j. small (suc j)) low i
+-- a call that starts where its sources are sound does, where nothing changed, what it does with bare ones
+module _ {A P : Type 0} (a : AccessSource A) (p : PageSource P) (s : State) (b d : Sources A P) (once : ShowFreshOnce (since (seen_now s) s.past) (shown a p b)) where
+  abbrev Here : Scene
+  Here = scene_at s (shown a p b)
 
-either_false : (p q : Bool) → (p || not q) ≡ false → q ≡ true
-either_false true q e = absurd (clash (sym e))
-either_false false true e = refl
-either_false false false e = absurd (clash (sym e))
+  abbrev Turned : {X : Type 0} → Translating X → Type 0
+  Turned c = TurnsAccess a (prefixed s.registers.prefix s.view) (turn_of (c.access_key (scene_at s (shown a p b)))) b.access d.access
 
-control_bounded : (r : Registers) → Bounded r → (o : Option Control) → Bounded (unwrap_or (with_control r o) r)
-control_bounded r small None = small
-control_bounded r small (Some k) = small
+  widths : {X : Type 0} (c : Translating X) → Turned c → (k : AccessKey) → c.access_key (scene_at s (shown a p b)) ≡ Some k → AccessFits k
+  widths c turns = (asked AccessFits (access_fresh (seen_now s)) a.holds a.after_ask a.after_purge (c.access_key (scene_at s (shown a p b))) b.access d.access turns).widths
 
-line_bounded : (r : Registers) → Bounded r → (c : Call) → Bounded (line_registers r c)
-line_bounded r small (call.LoadControl n x) = control_bounded r small (control_set r.control n x)
-line_bounded r small (call.LoadAccess n x) = by (ltb 15 n || not (ltb x (2 ^ 32))) refl
-  where
-    by : (t : Bool) → (ltb 15 n || not (ltb x (2 ^ 32))) ≡ t → Bounded (unwrap_or (cond t None (Some (record { mode = r.mode; size = r.size; key = r.key; prefix = r.prefix; control = r.control; access = set r.access n x }))) r)
-    by true e = small
-    by false e = set_bounded r.access n x small (ltb-true _ _ (either_false (ltb 15 n) (ltb x (2 ^ 32)) e))
-line_bounded r small (call.LoadMode mode size key) = by (ltb 4 mode || (ltb 2 size || ltb 15 key))
-  where
-    by : (t : Bool) → Bounded (unwrap_or (cond t None (Some (record { mode = mode; size = size; key = key; prefix = r.prefix; control = r.control; access = r.access }))) r)
-    by true = small
-    by false = small
-line_bounded r small (call.SetPrefix p) = by (lawful_prefix p)
-  where
-    by : (t : Bool) → Bounded (cond t (with_prefix p r) r)
-    by true = small
-    by false = small
-line_bounded r small (call.Translate access register address) = small
-line_bounded r small (call.Put a x) = small
-line_bounded r small (call.Purge source) = small
+  unchanged_keys : {X : Type 0} (c : Translating X) → AreUnchanged (seen_now s) (since (seen_now s) s.past) (λ k. turn_of (c.access_key (scene_at s bare)) ≡ asked_for k) (λ k. turn_of (c.page_key (scene_at s bare)) ≡ asked_for k) → IsUnchanged c (scene_at s (shown a p b)) s.past
+  unchanged_keys c unchanged = record { access = λ k e. unchanged.access k (ap turn_of e); page = λ k e. unchanged.page k (ap turn_of e) }
 
-bounded_after : (r : Registers) → Bounded r → (c : Request) → Bounded (registers_after r c)
-bounded_after r small (request.Line c) = line_bounded r small c
-bounded_after r small (request.Fetch register address) = small
-bounded_after r small (request.Store register address x) = small
+  now_of : (c : Request) → TurnsAccess a (prefixed s.registers.prefix s.view) (effect_of c (scene_at s (shown a p b))).access b.access d.access → FreshNow s (shown a p b) c
+  now_of (request.Line (call.LoadControl n x)) turns same = record { outcome = refl; registers = refl; puts = refl }
+  now_of (request.Line (call.LoadAccess n x)) turns same = record { outcome = refl; registers = refl; puts = refl }
+  now_of (request.Line (call.LoadMode mode size key)) turns same = record { outcome = refl; registers = refl; puts = refl }
+  now_of (request.Line (call.SetPrefix q)) turns same = record { outcome = refl; registers = refl; puts = refl }
+  now_of (request.Line (call.Translate access register address)) turns same =
+      let c = translates access (operand register address) 12 in
+      record {
+        outcome = ap (λ x. outcome.Translated (record { result = x; count = 0 })) (translates_same access (operand register address) 12 (scene_at s (shown a p b)) s.past (widths c turns) once (unchanged_keys c (record { access = same.access; page = same.page })));
+        registers = refl;
+        puts = refl;
+      }
+  now_of (request.Line (call.Put q x)) turns same = record { outcome = refl; registers = refl; puts = refl }
+  now_of (request.Line (call.Purge AccessRegister)) turns same = record { outcome = refl; registers = refl; puts = refl }
+  now_of (request.Line (call.Purge Page)) turns same = record { outcome = refl; registers = refl; puts = refl }
+  now_of (request.Fetch register address) turns same =
+      let c = fetches (operand register address) 12 in
+      record {
+        outcome = ap (λ x. outcome.Fetched (record { result = x; count = 0 })) (fetches_same (operand register address) 12 (scene_at s (shown a p b)) s.past (widths c turns) once (unchanged_keys c (record { access = same.access; page = same.page })));
+        registers = refl;
+        puts = refl;
+      }
+  now_of (request.Store register address x) turns same =
+      let c = stores (operand register address) 12 in
+      let reaching = accesses Store (operand register address) 12 in
+      record {
+        outcome = ap (λ y. outcome.Stored (record { result = y; count = 0 })) (stores_same (operand register address) 12 (scene_at s (shown a p b)) s.past (widths c turns) once (unchanged_keys c (record { access = same.access; page = same.page })));
+        registers = refl;
+        puts = ap (λ y. stored_by y x) (accesses_same Store (operand register address) 12 (scene_at s (shown a p b)) s.past (widths reaching turns) once (unchanged_keys reaching (record { access = same.access; page = same.page })));
+      }
 
--- after the new call
-pub stands_new : (v : View) {r : Registers} {arts : AccessKey → AccessAnswer → Type 0} {pages : PageKey → PageAnswer → Type 0} → r ≡ zero_registers → Empty arts → Empty pages → Stands (start v) r v arts pages
-stands_new v {r} {arts} {pages} new none_a none_p =
-    record {
-      registers = new;
-      view = refl;
-      arts = sound_empty AccessFits access_fresh (arts_since (start v)) arts none_a;
-      pages = sound_empty PageFits page_fresh (pages_since (start v)) pages none_p;
-      small = zero_bounded;
-    }
+module _ {A P : Type 0} (a : AccessSource A) (p : PageSource P) where
+  -- after the new call
+  pub stands_new : (v : View) {r : Registers} {b d : Sources A P} → r ≡ zero_registers → EmptiesBoth a p b d → Stands (start v) r v (held a p d)
+  stands_new v {r} {b} {d} new emptied = record {
+    registers = new;
+    view = refl;
+    sound = record {
+      access = sound_empty AccessFits access_fresh (since (seen_now (start v)) (start v).past).access (a.holds d.access) emptied.0.empty;
+      page = sound_empty PageFits page_fresh (since (seen_now (start v)) (start v).past).page (p.holds d.page) emptied.1.empty;
+    };
+  }
 
--- what one call did, over sources that hold these pairs
-pub record Performed (r : Registers) (v : View) (shown : Shown) (c : Request) (o : Outcome) (r' : Registers) (v' : View)
-    (arts_before arts_after : AccessKey → AccessAnswer → Type 0) (pages_before pages_after : PageKey → PageAnswer → Type 0) : Type 0 where
-  pub came : o ≡ outcome_of r shown v c
-  pub registers : r' ≡ registers_after r c
-  pub view : v' ≡ view_after r shown v c
-  pub arts : MatchBool (purges named.AccessRegister c) (Empty arts_after) (Kept AccessFits (access_fresh (real_view r v).word) arts_before arts_after)
-  pub pages : MatchBool (purges named.Page c) (Empty pages_after) (Kept PageFits (page_fresh (real_view r v).word) pages_before pages_after)
+  -- what one call did, from these registers and this storage
+  pub record Did (r : Registers) (v : View) (b : Sources A P) (c : Request) (o : Outcome) (r' : Registers) (v' : View) (d : Sources A P) : Type 0 where
+    pub came : o ≡ (effect_of c (seen r (prefixed r.prefix v) (shown a p b))).outcome
+    pub registers : r' ≡ (effect_of c (seen r (prefixed r.prefix v) (shown a p b))).registers
+    pub view : v' ≡ after_puts_under r.prefix (effect_of c (seen r (prefixed r.prefix v) (shown a p b))).puts v
+    pub access : TurnsAccess a (prefixed r.prefix v) (effect_of c (seen r (prefixed r.prefix v) (shown a p b))).access b.access d.access
+    pub page : TurnsPage p (prefixed r.prefix v) (effect_of c (seen r (prefixed r.prefix v) (shown a p b))).page b.page d.page
 
-module _ (s : State) {r : Registers} {v : View} (shown : Shown) (c : Request) {o : Outcome} {r' : Registers} {v' : View} {arts_before arts_after : AccessKey → AccessAnswer → Type 0} {pages_before pages_after : PageKey → PageAnswer → Type 0}
-    (shown_a : (k : AccessKey) (a : AccessAnswer) → shown.arts k ≡ Some a → arts_before k a) (shown_p : (k : PageKey) (a : PageAnswer) → shown.pages k ≡ Some a → pages_before k a)
-    (stands : Stands s r v arts_before pages_before) (done : Performed r v shown c o r' v' arts_before arts_after pages_before pages_after) where
-  pub keeps_law : KeepsLaw s shown c o × Stands (next s shown c) r' v' arts_after pages_after
-  keeps_law =
-      let here = subst₂ (λ x y. Performed x y shown c o r' v' arts_before arts_after pages_before pages_after) stands.registers stands.view done in
-      let arts_once = sound_shown AccessFits access_fresh (arts_since s) shown.arts arts_before shown_a stands.arts in
-      let pages_once = sound_shown PageFits page_fresh (pages_since s) shown.pages pages_before shown_p stands.pages in (
-        record { came = here.came; arts_once = arts_once; pages_once = pages_once; now = now_of s stands.small shown arts_once pages_once c },
-        record {
-          registers = here.registers;
-          view = here.view;
-          arts = sound_next AccessFits access_fresh (purges named.AccessRegister c) (seen_now s) (seen_now (next s shown c)) s.arts_earlier arts_before arts_after here.arts stands.arts;
-          pages = sound_next PageFits page_fresh (purges named.Page c) (seen_now s) (seen_now (next s shown c)) s.pages_earlier pages_before pages_after here.pages stands.pages;
-          small = bounded_after s.registers stands.small c;
-        },
-      )
+  module _ (held_a : (x : A) (k : AccessKey) (y : AccessAnswer) → a.shows x k ≡ Some y → a.holds x k y) (held_p : (x : P) (k : PageKey) (y : PageAnswer) → p.shows x k ≡ Some y → p.holds x k y) where
+    pub goes_on : (r : Registers) (v : View) (b : Sources A P) (c : Request) (o : Outcome) (r' : Registers) (v' : View) (d : Sources A P) → Did r v b c o r' v' d
+        → (s : State) → Stands s r v (held a p b) → KeepsLaw s (shown a p b) c o × Stands (next s (shown a p b) c) r' v' (held a p d)
+    goes_on r v b c o r' v' d did s stands =
+        let here = subst₂ (λ x y. Did x y b c o r' v' d) stands.registers stands.view did in
+        let now = seen_now s in
+        let once : ShowFreshOnce (since now s.past) (shown a p b) = record {
+          access = sound_shown AccessFits access_fresh (since now s.past).access (a.shows b.access) (a.holds b.access) (held_a b.access) stands.sound.access;
+          page = sound_shown PageFits page_fresh (since now s.past).page (p.shows b.page) (p.holds b.page) (held_p b.page) stands.sound.page;
+        } in
+        let effect = effect_of c (scene_at s (shown a p b)) in
+        let new = seen_now (next s (shown a p b) c) in (
+          record { came = here.came; once = once; now = now_of a p s b d once c here.access },
+          record {
+            registers = here.registers;
+            view = here.view;
+            sound = record {
+              access = sound_turned AccessFits access_fresh a.holds a.after_ask a.after_purge now new s.past.access b.access d.access effect.access here.access stands.sound.access;
+              page = sound_turned PageFits page_fresh p.holds p.after_ask p.after_purge now new s.past.page b.page d.page effect.page here.page stands.sound.page;
+            };
+          },
+        )

@@ -7,7 +7,7 @@ use crate::perform::answer;
 use arch::condition::Condition;
 use lookup::kinds::{AccessRegister, Paging};
 use lookup::source::Source;
-use machine::{Machine, Outcome, Request};
+use machine::{Machine, Outcome, Request, Sources};
 use storage::prefix::Prefixed;
 use storage::storage::Storage;
 
@@ -16,22 +16,28 @@ use storage::storage::Storage;
 // outcome it is refused, and changes nothing.
 pub fn run<S: Storage, A: Source<AccessRegister>, P: Source<Paging>>(
     storage: &mut Prefixed<S>,
-    arts: &mut A,
-    pages: &mut P,
+    sources: &mut Sources<A, P>,
     calls: &[Request],
     outcomes: &mut [Outcome],
 ) -> Result<(), Condition>
-    ensures law { MatchResult result (λ _. Ran A.Source.shows A.Source.moves A.Source.clears P.Source.shows P.Source.moves P.Source.clears (S.Storage.view storage.old.beneath) arts.old pages.old calls.now (take (length calls.now) outcomes.new) (S.Storage.view storage.new.beneath) arts.new pages.new) (λ e. (e ≡ ShortList) × (length outcomes.old < length calls.now)) }
+    ensures law { MatchResult result
+        (λ _. Ran A.Source P.Source (S.view storage.old.beneath) sources.old calls.now
+            (take (length calls.now) outcomes.new) (S.view storage.new.beneath) sources.new)
+        (λ e. (e ≡ ShortList) × (length outcomes.old < length calls.now)) }
     ensures alike { NothingElseMatters }
-    ensures refused { MatchResult result (λ _. length calls.now ≤ length outcomes.old) (λ _. (storage.new ≡ storage.old) × (arts.new ≡ arts.old) × (pages.new ≡ pages.old)) }
-    ensures outcomes { MatchResult result (λ _. drop (length calls.now) outcomes.new ≡ drop (length calls.now) outcomes.old) (λ _. outcomes.new ≡ outcomes.old) }
+    ensures refused { MatchResult result
+        (λ _. length calls.now ≤ length outcomes.old)
+        (λ _. (storage.new ≡ storage.old) × (sources.new ≡ sources.old)) }
+    ensures outcomes { MatchResult result
+        (λ _. drop (length calls.now) outcomes.new ≡ drop (length calls.now) outcomes.old)
+        (λ _. outcomes.new ≡ outcomes.old) }
 {
     if outcomes.len() < calls.len() {
         return Err(Condition::ShortList);
     }
-    let mut machine = Machine::new(arts, pages);
+    let mut machine = Machine::new(sources);
     for (i, call) in calls.iter().enumerate() {
-        outcomes[i] = answer(&mut machine, storage, arts, pages, *call);
+        outcomes[i] = answer(&mut machine, storage, sources, *call);
     }
     Ok(())
 }

@@ -1,18 +1,10 @@
-use Rattle.machine.specs.Runs.{Shown}
-use Rattle.runs.proofs.Stands.{keeps_law}
+use Rattle.runs.proofs.Stands.{goes_on}
 use Rattle.runs.proofs.perform.answer.Goals as goal
 
-pub returns : goal.returns
-returns g c =
+pub returns-clause-law : goal.returns-clause-law
+returns-clause-law g c =
+    let a = c.args in
     let did = c.perform.ensures in
-    let shown : Shown = record { arts = g.A.Source.shows c.args.arts.now; pages = g.P.Source.shows c.args.pages.now } in
-    record {
-      outcome = did.outcome;
-      registers = did.registers;
-      storage = did.storage;
-      arts = did.arts;
-      pages = did.pages;
-      arts_held = did.arts_held;
-      pages_held = did.pages_held;
-      law = λ s stands. keeps_law s shown c.args.request (λ k a e. g.A.Source.shown c.args.arts.now k a e) (λ k a e. g.P.Source.shown c.args.pages.now k a e) stands (record { came = did.outcome; registers = did.registers; view = did.storage; arts = did.arts_held; pages = did.pages_held });
-    }
+    goes_on g.A.Source g.P.Source (λ s k x e. g.met.A.Source.shown_is_held s k x e) (λ s k x e. g.met.P.Source.shown_is_held s k x e)
+    a.machine.now (g.S.Storage.view a.storage.now.beneath) a.sources.now a.request c.perform.result c.perform.new.machine (g.S.Storage.view c.perform.new.storage.beneath) c.perform.new.sources
+    (record { came = did.outcome; registers = did.registers; view = did.storage; access = did.access; page = did.page })

@@ -1,0 +1,85 @@
+-- What a call that translates makes is its whole effect.
+use Rattle.std.proofs.Common.{◌≡◌, List, ℕ, length, Some, None, Option, Result, ap, ap₂, ◌∙◌, subst, refl}
+use Rattle.arch.specs.declared.call.Access.{Access}
+use Rattle.arch.specs.declared.call.Access.TheVariants.{Store}
+use Rattle.arch.specs.declared.call.Call.TheVariants as call
+use Rattle.arch.specs.Walks.{Traced}
+use Rattle.storage.specs.declared.prefix.Prefixed.{Prefixed}
+use Rattle.storage.specs.declared.storage.Storage.{Ghosts as StorageGhosts}
+use Rattle.storage.specs.Views.{View}
+use Rattle.lookup.specs.declared.access.AccessKey.{AccessKey}
+use Rattle.lookup.specs.declared.page.PageKey.{PageKey}
+use Rattle.lookup.specs.Access.{AccessFits}
+use Rattle.lookup.specs.Lookups.{access_fresh, page_fresh}
+use Rattle.lookup.specs.Spelling.{PageFits}
+use Rattle.machine.specs.declared.counted.Counted.{Counted}
+use Rattle.machine.specs.declared.request.Outcome.TheVariants as outcome
+use Rattle.machine.specs.declared.request.Request.TheVariants as request
+use Rattle.machine.specs.declared.sources.Operand.{Operand}
+use Rattle.machine.specs.declared.sources.Sources.{Sources}
+use Rattle.machine.specs.Calls.{Makes, Reports, accesses, fetches, stores, translates}
+use Rattle.machine.specs.Effects.{Performs, Turns, counted, turn_of, TurnsAccess, TurnsPage}
+use Rattle.machine.specs.Puts.{after_puts_under, stored_by}
+use Rattle.machine.specs.Registers.{Registers}
+use Rattle.machine.specs.Scene.{AccessSource, PageSource, scene}
+use Rattle.machine.specs.Turns.{Asked, AsksAccess, AsksPage}
+
+counted_is : {X : Type 0} {t : Traced X} {list list' : List ℕ} {r : Counted X} → Reports t list list' r → r ≡ counted t
+counted_is reports = ap₂ (λ x n. record { result = x; count = n }) reports.result reports.count
+
+-- a source that was asked took its turn so, and the other way round
+module _ {Key Answer S : Type 0} (fits : Key → Type 0) (fresh : Key → Traced Answer) (holds : S → Key → Answer → Type 0) (after_ask : S → (Key → Traced Answer) → Key → S → Type 0) (after_purge : S → S → Type 0) where
+  pub turned : (key : Option Key) (before after : S) → Asked fits fresh holds after_ask key before after → Turns fits fresh holds after_ask after_purge (turn_of key) before after
+  turned None before after asks = asks
+  turned (Some k) before after asks = asks
+
+  pub asked : (key : Option Key) (before after : S) → Turns fits fresh holds after_ask after_purge (turn_of key) before after → Asked fits fresh holds after_ask key before after
+  asked None before after turns = turns
+  asked (Some k) before after turns = turns
+
+access_turned : {A : Type 0} (a : AccessSource A) (real : View) (key : Option AccessKey) (before after : A) → AsksAccess a real key before after → TurnsAccess a real (turn_of key) before after
+access_turned a real = turned AccessFits (access_fresh real.word) a.holds a.after_ask a.after_purge
+
+page_turned : {P : Type 0} (p : PageSource P) (real : View) (key : Option PageKey) (before after : P) → AsksPage p real key before after → TurnsPage p real (turn_of key) before after
+page_turned p real = turned PageFits (page_fresh real.word) p.holds p.after_ask p.after_purge
+
+abbrev pub operand : ℕ → ℕ → Operand
+operand register address = record { register = register; address = address }
+
+module _ {S A P : Type 0} (s : StorageGhosts S) (a : AccessSource A) (p : PageSource P) {r r' : Registers} {t t' : Prefixed S} {b d : Sources A P} {list list' : List ℕ} (places : length list ≡ 12) (register address : ℕ) where
+  pub translated : (access : Access) {came : Counted ℕ} → Makes a p (translates access (operand register address) (length list)) (scene s a p r t b) b list came d list' → r' ≡ r → t'.beneath ≡ t.beneath
+      → Performs s a p (request.Line (call.Translate access register address)) r t b (outcome.Translated came) r' t' d
+  translated access {came} makes registers storage =
+      let made = subst (λ l. Makes a p (translates access (operand register address) l) (scene s a p r t b) b list came d list') places makes in
+      record {
+        outcome = ap outcome.Translated (counted_is made.reports);
+        registers = registers;
+        storage = ap s.view storage;
+        access = access_turned a (scene s a p r t b).real ((translates access (operand register address) 12).access_key (scene s a p r t b)) b.access d.access made.access;
+        page = page_turned p (scene s a p r t b).real ((translates access (operand register address) 12).page_key (scene s a p r t b)) b.page d.page made.page;
+      }
+
+  pub fetched : {came : Counted ℕ} → Makes a p (fetches (operand register address) (length list)) (scene s a p r t b) b list came d list' → r' ≡ r → t'.beneath ≡ t.beneath
+      → Performs s a p (request.Fetch register address) r t b (outcome.Fetched came) r' t' d
+  fetched {came} makes registers storage =
+      let made = subst (λ l. Makes a p (fetches (operand register address) l) (scene s a p r t b) b list came d list') places makes in
+      record {
+        outcome = ap outcome.Fetched (counted_is made.reports);
+        registers = registers;
+        storage = ap s.view storage;
+        access = access_turned a (scene s a p r t b).real ((fetches (operand register address) 12).access_key (scene s a p r t b)) b.access d.access made.access;
+        page = page_turned p (scene s a p r t b).real ((fetches (operand register address) 12).page_key (scene s a p r t b)) b.page d.page made.page;
+      }
+
+  pub stored : (x : ℕ) {came : Counted (Unit {0})} → Makes a p (stores (operand register address) (length list)) (scene s a p r t b) b list came d list' → r' ≡ r
+      → s.view t'.beneath ≡ after_puts_under r.prefix (stored_by ((accesses Store (operand register address) (length list)).gives (scene s a p r t b)).result x) (s.view t.beneath)
+      → Performs s a p (request.Store register address x) r t b (outcome.Stored came) r' t' d
+  stored x {came} makes registers storage =
+      let made = subst (λ l. Makes a p (stores (operand register address) l) (scene s a p r t b) b list came d list') places makes in
+      record {
+        outcome = ap outcome.Stored (counted_is made.reports);
+        registers = registers;
+        storage = storage ∙ ap (λ l. after_puts_under r.prefix (stored_by ((accesses Store (operand register address) l).gives (scene s a p r t b)).result x) (s.view t.beneath)) places;
+        access = access_turned a (scene s a p r t b).real ((stores (operand register address) 12).access_key (scene s a p r t b)) b.access d.access made.access;
+        page = page_turned p (scene s a p r t b).real ((stores (operand register address) 12).page_key (scene s a p r t b)) b.page d.page made.page;
+      }
