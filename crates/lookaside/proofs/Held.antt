@@ -1,18 +1,14 @@
 -- What a lookaside holds after it has noted an answer from beneath.
-use Rattle.std.proofs.Common.{◌≡◌, ◌⊎◌, Some, None, Ok, Option, Result, sym, refl, ap, ◌∙◌, subst, subst₂, inl, inr}
-use Rattle.arch.specs.declared.condition.Condition.{Condition}
+use Rattle.std.proofs.Common.{◌≡◌, ◌⊎◌, Some, None, Ok, Option, sym, refl, ap, ◌∙◌, subst, subst₂, inl, inr}
 use Rattle.arch.specs.Walks.{Traced}
 use Rattle.lookup.specs.Sources.{asked, Kept}
 use Rattle.lookup.specs.declared.words.Words.{Words}
 use Rattle.lookaside.specs.Layers.{InTable}
 
-ok_same : {A : Type 0} {a b : A} → ◌≡◌ {A = Result A Condition} (Ok a) (Ok b) → a ≡ b
-ok_same e = cc
-
 -- an answer from beneath was held there, or is fresh
 from_beneath : {Answer : Type 0} (shown : Option Answer) (fresh : Traced Answer) (holds : Answer → Type 0) (a : Answer) → ((b : Answer) → shown ≡ Some b → holds b) → Ok a ≡ (asked shown fresh).result → holds a ⊎ (fresh.result ≡ Ok a)
 from_beneath None fresh holds a held e = inr (sym e)
-from_beneath (Some b) fresh holds a held e = inl (subst holds (sym (ok_same e)) (held b refl))
+from_beneath (Some b) fresh holds a held e = let same : b ≡ a = cc in inl (subst holds same (held b refl))
 
 module _ {Key Answer : Type 0} (fits : Key → Type 0) (fresh : Key → Traced Answer) (spelt : Key → Words) (written : Answer → Words) (meant : Words → Answer)
     (kept_before kept_after : Words → Words → Type 0) (held_before held_after : Key → Answer → Type 0) (shows : Key → Option Answer) (key : Key) (answer : Answer) where

@@ -1,26 +1,45 @@
--- A pair of words that a table finds stands in one of its rows.
-use Rattle.std.specs.Prelude.{◌≡◌, ℕ, suc, Bool, true, false, cond, List, [], ◌∷◌, is_some, Some, None, slice_index_or, refl}
-use Rattle.std.proofs.Common.{ap}
-use borrow.Author.Tests.{clash}
-use Rattle.std.specs.Option.{option_map, unwrap_or}
-use Rattle.storage.specs.Records.{first}
+-- A pair of words that a table finds stands in one of its rows. The checker takes a law's proof from specs/.
+use Rattle.std.specs.Prelude.{◌≡◌, ℕ, zero, suc, ◌==◌, Bool, true, false, cond, ◌&&◌, List, [], ◌∷◌, Some, None, Option, find, slice_index_or, refl}
+use Rattle.std.proofs.Common.{ap, arith}
+use Rattle.std.proofs.lemmas.Bool.Decides.{nat_tests}
+use Rattle.std.specs.Option.{option_map, option_and_then}
 use Rattle.lookup.specs.declared.words.Words.{Words}
+use Rattle.lookaside.specs.declared.row.Entry.{Entry}
 use Rattle.lookaside.specs.declared.row.Row.{Row}
-use Rattle.lookaside.specs.Rows.{empty_row, matches, first_answer, row_answer, KeptRow}
+use Rattle.lookaside.specs.Rows.{empty_row, full_row, matches, matches_entry, answer_of, first_answer, row_answer, HasPair}
 
--- one row
-row_found : (r : Row) (k a : Words) (t : Bool) → matches k r ≡ t → cond t (Some r.answer) None ≡ Some a → (matches k r ≡ true) × (r.answer ≡ a)
-row_found r k a true e f = (e, ap (λ o. unwrap_or o r.answer) f)
-row_found r k a false e f = absurd (clash (ap is_some f))
+same_words : (k j : Words) → (k.first == j.first && k.second == j.second) ≡ true → k ≡ j
+same_words k j e = grind (arith, nat_tests)
 
-pub at_found : (rows : List Row) (i : ℕ) (k a : Words) → row_answer (slice_index_or rows i empty_row) k ≡ Some a → KeptRow rows k a
-at_found rows i k a f = (i, row_found (slice_index_or rows i empty_row) k a (matches k (slice_index_or rows i empty_row)) refl f)
+-- a row that matches a key and has an answer
+full_entry : (o : Option Entry) (k a : Words) → matches_entry k o ≡ true → option_map (λ e. e.answer) o ≡ Some a → o ≡ Some (record { key = k; answer = a })
+full_entry None k a e f = absurd cc
+full_entry (Some o) k a e f = let key = same_words o.key k e in let answer : o.answer ≡ a = cc in ap (λ p. Some p) (λ i. record { key = key i; answer = answer i })
+
+full : (r : Row) (k a : Words) → matches k r ≡ true → answer_of r ≡ Some a → r ≡ full_row k a
+full r k a e f = λ i. record { entry = full_entry r.entry k a e f i }
+
+one_found : (r : Row) (k a : Words) → row_answer r k ≡ Some a → r ≡ full_row k a
+one_found r k a e = by (matches k r) refl e
+  where
+    by : (t : Bool) → matches k r ≡ t → cond t (answer_of r) None ≡ Some a → r ≡ full_row k a
+    by true m f = full r k a m f
+    by false m f = absurd cc
+
+later : (r : Row) (rows : List Row) (k a : Words) → HasPair rows k a → HasPair (r ∷ rows) k a
+later r rows k a (i, within, here) = (suc i, omega arith, here)
+
+-- a row at any place, past the last an empty one
+pub at_found : (rows : List Row) (i : ℕ) (k a : Words) → row_answer (slice_index_or rows i empty_row) k ≡ Some a → HasPair rows k a
+at_found [] i k a f = absurd cc
+at_found (r ∷ rows) zero k a f = (0, omega arith, one_found r k a f)
+at_found (r ∷ rows) (suc i) k a f = later r rows k a (at_found rows i k a f)
 
 -- the first of several
-pub first_found : (rows : List Row) (k a : Words) → first_answer rows k ≡ Some a → KeptRow rows k a
-first_found [] k a f = absurd (clash (ap is_some f))
-first_found (r ∷ rs) k a f = by (first_found rs k a) (matches k r) refl f
+pub first_found : (rows : List Row) (k a : Words) → first_answer rows k ≡ Some a → HasPair rows k a
+first_found [] k a f = absurd cc
+first_found (r ∷ rows) k a f = by (first_found rows k a) (matches k r) refl f
   where
-    by : (first_answer rs k ≡ Some a → KeptRow rs k a) → (t : Bool) → matches k r ≡ t → option_map (λ x. x.answer) (cond t (Some r) (first (matches k) rs)) ≡ Some a → KeptRow (r ∷ rs) k a
-    by later true e g = (0, (e, ap (λ o. unwrap_or o r.answer) g))
-    by later false e g = (suc (later g).0, (later g).1)
+    by : (first_answer rows k ≡ Some a → HasPair rows k a) → (t : Bool) → matches k r ≡ t → option_and_then answer_of (cond t (Some r) (find (matches k) rows)) ≡ Some a → HasPair (r ∷ rows) k a
+    by found true m g = (0, omega arith, full r k a m g)
+    by found false m g = later r rows k a (found g)

@@ -23,10 +23,7 @@ abbrev pub Moves : Option Words → Type 0 → Type 0 → Type 0
 Moves None asks_beneath same = asks_beneath
 Moves (Some w) asks_beneath same = same
 
-some_same : {A : Type 0} {a b : A} → Some a ≡ Some b → a ≡ b
-some_same e = cc
-
 -- a pair shown is held, by the table or beneath
 pub told_held : {Answer : Type 0} (meant : Words → Answer) (found : Option Words) (below : Option Answer) (keeps : Words → Type 0) (holds : Answer → Type 0) → ((w : Words) → found ≡ Some w → keeps w) → ((b : Answer) → below ≡ Some b → holds b) → (a : Answer) → told meant found below ≡ Some a → InTable meant keeps a ⊎ holds a
 told_held meant None below keeps holds kept held a e = inr (held a e)
-told_held meant (Some w) below keeps holds kept held a e = inl (w, (kept w refl, some_same e))
+told_held meant (Some w) below keeps holds kept held a e = inl (w, (kept w refl, cc))

@@ -1,35 +1,48 @@
 -- Rows of words, and what is found in them.
-use Rattle.std.specs.Prelude.{◌≡◌, ℕ, ◌%◌, Bool, true, false, cond, ◌&&◌, List, get_or, Some, None, Option, ◌==◌, bit_xor, slice_index_or}
-use Rattle.std.specs.Option.{option_map}
-use Rattle.storage.specs.Records.{first}
+use Rattle.std.specs.Prelude.{ℕ, ◌%◌, Bool, false, cond, ◌&&◌, List, Some, None, Option, ◌==◌, bit_xor, find}
+use Rattle.std.specs.List.{Contains}
+use Rattle.std.specs.Option.{option_map, option_and_then}
 use Rattle.lookup.specs.declared.words.Words.{Words}
+use Rattle.lookaside.specs.declared.row.Entry.{Entry}
 use Rattle.lookaside.specs.declared.row.Row.{Row}
 
-abbrev pub zero_words : Words
-zero_words = record { first = 0; second = 0 }
-
 abbrev pub empty_row : Row
-empty_row = record { full = false; key = zero_words; answer = zero_words }
+empty_row = record { entry = None }
 
 abbrev pub full_row : Words → Words → Row
-full_row k a = record { full = true; key = k; answer = a }
+full_row k a = record { entry = Some (record { key = k; answer = a }) }
 
 -- an empty row matches no key
-abbrev pub matches : Words → Row → Bool
-matches k r = r.full && (r.key.first == k.first && r.key.second == k.second)
+abbrev pub matches_entry : Words → Option Entry → Bool
+matches_entry k None = false
+matches_entry k (Some e) = e.key.first == k.first && e.key.second == k.second
 
--- the answer of the first row that matches, from row 0 up
-abbrev pub first_answer : List Row → Words → Option Words
-first_answer rows k = option_map (λ r. r.answer) (first (matches k) rows)
+abbrev pub matches : Words → Row → Bool
+matches k r = matches_entry k r.entry
+
+-- the answer of one row, whatever its key
+abbrev pub answer_of : Row → Option Words
+answer_of r = option_map (λ e. e.answer) r.entry
 
 -- the answer of one row, where it matches
 abbrev pub row_answer : Row → Words → Option Words
-row_answer r k = cond (matches k r) (Some r.answer) None
+row_answer r k = cond (matches k r) (answer_of r) None
+
+-- the answer of the first row that matches, from row 0 up
+abbrev pub first_answer : List Row → Words → Option Words
+first_answer rows k = option_and_then answer_of (find (matches k) rows)
 
 -- some row holds this pair of words
-abbrev pub KeptRow : List Row → Words → Words → Type 0
-KeptRow rows k a = (i : ℕ) × ((matches k (slice_index_or rows i empty_row) ≡ true) × ((get_or rows i empty_row).answer ≡ a))
+abbrev pub HasPair : List Row → Words → Words → Type 0
+HasPair rows k a = Contains rows (full_row k a)
+
+-- the rows of each table
+abbrev pub round_robin_rows : ℕ
+round_robin_rows = 32
+
+abbrev pub direct_rows : ℕ
+direct_rows = 64
 
 -- the direct row of a key: the last six bits of the exclusive-or of its words
 abbrev pub direct_row : Words → ℕ
-direct_row k = bit_xor k.first k.second % 64
+direct_row k = bit_xor k.first k.second % direct_rows

@@ -1,16 +1,18 @@
 // The table of a direct-mapped lookaside: 64 rows, one for each key's words to fall on.
 ghost use Rattle.std.specs.Prelude.{◌≡◌, replicate, slice_index_or, slice_set};
 ghost use Rattle.lookaside.specs.Found.{at_found};
-ghost use Rattle.lookaside.specs.Rows.{empty_row, full_row, row_answer, KeptRow, direct_row};
+ghost use Rattle.lookaside.specs.Rows.{direct_row, direct_rows, empty_row, full_row, row_answer, HasPair};
 
 use crate::lookaside::Lookaside;
 use crate::row::Row;
 use crate::table::Table;
 use lookup::words::Words;
 
+const ROWS: usize = 64;
+
 #[derive(Drop)]
 pub struct DirectMappedTable {
-    pub rows: [Row; 64],
+    pub rows: [Row; ROWS],
 }
 
 // A direct-mapped lookaside over a source.
@@ -20,15 +22,15 @@ pub type DirectMapped<B> = Lookaside<DirectMappedTable, B>;
 fn row_of(key: Words) -> usize
     ensures { result ≡ direct_row key }
 {
-    ((key.first ^ key.second) % 64) as usize
+    (key.first ^ key.second) as usize % ROWS
 }
 
 impl DirectMappedTable {
     pub fn new() -> Self
-        ensures { result.rows ≡ replicate 64 empty_row }
+        ensures { result.rows ≡ replicate direct_rows empty_row }
     {
         DirectMappedTable {
-            rows: [Row::empty(); 64],
+            rows: [Row::empty(); ROWS],
         }
     }
 }
@@ -36,21 +38,17 @@ impl DirectMappedTable {
 impl Table for DirectMappedTable {
     ghost finds = { λ t k. row_answer (slice_index_or t.rows (direct_row k) empty_row) k };
 
-    ghost keeps = { λ t k a. KeptRow t.rows k a };
+    ghost has_pair = { λ t k a. HasPair t.rows k a };
 
-    ghost noted = { λ t k a u. u.rows ≡ slice_set t.rows (direct_row k) (full_row k a) };
+    ghost after_note = { λ t k a u. u.rows ≡ slice_set t.rows (direct_row k) (full_row k a) };
 
-    ghost cleared = { λ t. t.rows ≡ replicate 64 empty_row };
+    ghost after_clear = { λ t. t.rows ≡ replicate direct_rows empty_row };
 
     ghost found = { λ t k a f. at_found t.rows (direct_row k) k a f };
 
     fn find(&self, key: Words) -> Option<Words> {
         let row = self.rows[row_of(key)];
-        if row.holds(key) {
-            Some(row.answer)
-        } else {
-            None
-        }
+        if row.holds(key) { row.answer() } else { None }
     }
 
     fn note(&mut self, key: Words, answer: Words) {

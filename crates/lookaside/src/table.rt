@@ -9,26 +9,28 @@ pub trait Table {
     ghost finds: { Self → Words → Option Words };
 
     // The pairs of words in its rows.
-    ghost keeps: { Self → Words → Words → Type 0 };
+    ghost has_pair: { Self → Words → Words → Type 0 };
 
     // What it is after a pair is noted, row by row, and after it is cleared.
-    ghost noted: { Self → Words → Words → Self → Type 0 };
+    ghost after_note: { Self → Words → Words → Self → Type 0 };
 
-    ghost cleared: { Self → Type 0 };
+    ghost after_clear: { Self → Type 0 };
 
-    // A pair found is kept.
-    ghost found: { (t : Self) (k a : Words) → finds t k ≡ Some a → keeps t k a };
+    // A pair found is in a row.
+    ghost found: { (t : Self) (k a : Words) → finds t k ≡ Some a → has_pair t k a };
 
+    // The words of the answer that it finds for a key, or None.
     fn find(&self, key: Words) -> Option<Words>
         ensures { result ≡ finds self.now key };
 
     // Writes a pair into the row that its rule names; what was there is displaced.
     fn note(&mut self, key: Words, answer: Words)
-        ensures rows { noted self.old key answer self.new }
-        ensures keeps { (k a : Words) → keeps self.new k a → keeps self.old k a ⊎ ((k ≡ key) × (a ≡ answer)) };
+        ensures rows { after_note self.old key answer self.new }
+        ensures pairs { (k a : Words) → has_pair self.new k a
+            → has_pair self.old k a ⊎ ((k ≡ key) × (a ≡ answer)) };
 
     // Empties every row.
     fn clear(&mut self)
-        ensures rows { cleared self.new }
-        ensures none { (k a : Words) → keeps self.new k a → ⊥ };
+        ensures rows { after_clear self.new }
+        ensures none { (k a : Words) → has_pair self.new k a → ⊥ };
 }

@@ -1,5 +1,5 @@
-use Rattle.lookaside.proofs.Tables.{none_kept}
+use Rattle.lookaside.proofs.Tables.{no_pairs}
 use Rattle.lookaside.proofs.round_robin.RoundRobinTableTable.clear.Goals as goal
 
-pub returns : goal.returns
-returns c = record { rows = (c.new.ensures.rows, c.new.ensures.next); none = none_kept 32 c.new.ensures.rows }
+pub returns-clause-none : goal.returns-clause-none
+returns-clause-none c = no_pairs 32 c.new.ensures.rows

@@ -1,4 +1,4 @@
-use Rattle.std.proofs.Common.{◌≡◌, is_some, true, refl, ◌∙◌, rules}
+use Rattle.std.proofs.Common.{◌≡◌, is_some, true, refl, ◌∙◌, arith}
 use Rattle.std.proofs.lemmas.Grind.{common_steps}
 use Rattle.storage.specs.Records.{key_at}
 use Rattle.storage.specs.Views.{block_of}
@@ -8,7 +8,7 @@ use Rattle.storage.proofs.sparse.SparseStorage.put.Goals as goal
 pub returns-clause-words : goal.returns-clause-words
 returns-clause-words c =
     let s = c.args.self.now in
-    let keyed : is_some (key_at s.keys.now (block_of c.args.address)) ≡ true = search (rules, common_steps) in
+    let keyed : is_some (key_at s.keys.now (block_of c.args.address)) ≡ true = grind (arith, common_steps) in
     c.set_value.ensures.after ∙ words_put s.words.now s.keys.now c.args.address c.args.value keyed
 
 pub returns-clause-after : goal.returns-clause-after
