@@ -1,7 +1,5 @@
 // A lookaside: a table of answers over any source.
-ghost use Rattle.std.specs.Prelude.{◌≡◌, ◌⊎◌};
-ghost use Rattle.lookaside.specs.Layers.{told, InTable, Note, Moves, told_held};
-ghost use Rattle.lookup.specs.Sources.{asked};
+ghost use Rattle.lookaside.specs.Layers.{layer_shows, LayerHolds, LayerAfterAsk, LayerAfterPurge, shown_held};
 
 use crate::table::Table;
 use arch::condition::Condition;
@@ -17,15 +15,18 @@ pub struct Lookaside<T, B> {
 }
 
 impl<K: Kind, T: Table, B: Source<K>> Source<K> for Lookaside<T, B> {
-    ghost shows = { λ s k. told K.answer_of (T.finds s.table (K.key_words k)) (B.shows s.beneath k) };
+    ghost shows = { λ s k. layer_shows K.Kind T.Table B.Source s k };
 
-    ghost holds = { λ s k a. InTable K.answer_of (T.has_pair s.table (K.key_words k)) a ⊎ B.holds s.beneath k a };
+    ghost holds = { λ s k a. LayerHolds K.Kind T.Table B.Source s k a };
 
-    ghost after_ask = { λ s fresh k t. Moves (T.finds s.table (K.key_words k)) (B.after_ask s.beneath fresh k t.beneath × Note K.answer_words (λ w u. T.after_note s.table (K.key_words k) w u) s.table (asked (B.shows s.beneath k) (fresh k)).result t.table) (t ≡ s) };
+    ghost after_ask = { λ s fresh k t. LayerAfterAsk K.Kind T.Table B.Source s fresh k t };
 
-    ghost after_purge = { λ s t. T.after_clear t.table × B.after_purge s.beneath t.beneath };
+    ghost after_purge = { λ s t. LayerAfterPurge K.Kind T.Table B.Source s t };
 
-    ghost shown_is_held = { λ s k a e. told_held K.answer_of (T.finds s.table (K.key_words k)) (B.shows s.beneath k) (T.has_pair s.table (K.key_words k)) (B.holds s.beneath k) (λ w f. T.found s.table (K.key_words k) w f) (λ b f. B.shown_is_held s.beneath k b f) a e };
+    ghost shown_is_held = { λ s k a e. shown_held
+        K.answer_of (T.finds s.table (K.key_words k)) (B.shows s.beneath k)
+        (T.has_pair s.table (K.key_words k)) (B.holds s.beneath k)
+        (λ w f. T.found s.table (K.key_words k) w f) (λ b f. B.shown_is_held s.beneath k b f) a e };
 
     fn ask<S: Storage>(
         &mut self,
