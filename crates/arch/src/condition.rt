@@ -1,6 +1,9 @@
 // The conditions that a call can meet, each with the code and the name that a listing prints.
-ghost use Rattle.std.specs.Prelude.{◌≡◌};
-ghost use Rattle.arch.specs.Conditions.{code_of, name_of};
+ghost use Rattle.std.specs.Prelude.{◌≡◌, Some};
+ghost use Rattle.arch.specs.Conditions.{code_of, name_of, code_and_name};
+
+use std::fmt;
+use std::fmt::{Display, Formatter, Write};
 
 // In the order in which they are tested; an exception that can come at several places stands at the
 // first.
@@ -95,5 +98,16 @@ impl Condition {
             Condition::TooMuch => "too-much",
             Condition::BadText => "bad-text",
         }
+    }
+}
+
+// As the line of a refusal has it: the code, a tab, the name.
+impl Display for Condition {
+    ghost output = { λ c. Some (code_and_name c) };
+
+    fn fmt<W: Write>(&self, f: &mut Formatter<W>) -> fmt::Result {
+        let code = self.code();
+        let name = self.name();
+        write!(f, "{code}\t{name}")
     }
 }
