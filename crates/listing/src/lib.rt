@@ -98,7 +98,7 @@ fn list_run<A: Source<AccessRegister>, P: Source<Paging>>(
 fn list_refusal(heap: Global, refusal: Refusal) -> Result<String, AllocError>
     ensures { IfOk result (λ out. string_bytes out ≡ refusal_line refusal.line refusal.condition 0) }
 {
-    String::format(heap, RefusalLine::of_text(refusal))
+    String::format(heap, RefusalLine::from(refusal))
 }
 
 // The listing of a text, given places for all that it says.

@@ -31,7 +31,7 @@ fn rewrite(rt: &HostRuntime) -> anyhow::Result<()> {
             let mut out = rt.stdout();
             out.write_all(&copy[0..n])?;
         }
-        Err(refusal) => rt.print(RefusalLine::of_text(refusal))?,
+        Err(refusal) => rt.print(RefusalLine::from(refusal))?,
     }
     Ok(())
 }

@@ -18,7 +18,7 @@ one_more was new whole n i os d h e inv =
 pub loop-i-preserved : goal.loop-i-preserved
 loop-i-preserved c =
     let next : Outcome = get_or c.args.outcomes.now c.loop-i.i (Loaded (Ok tt)) in
-    let wrote : string_bytes c.print_outcome.new.out ≡ string_bytes c.loop-i.out ++ outcome_line (c.args.line + c.loop-i.i) next = search rules in
+    let wrote : string_bytes c.write.new.self ≡ string_bytes c.loop-i.out ++ outcome_line (c.args.line + c.loop-i.i) next = search rules in
     one_more _ _ _ c.args.line c.loop-i.i c.args.outcomes.now (Loaded (Ok tt)) (omega arith) wrote c.loop-i.invariant
 
 pub returns : goal.returns
