@@ -3,7 +3,7 @@ ghost use Rattle.std.specs.Prelude.{◌≡◌, ◌+◌, ◌^◌, ◌<◌, ◌++�
 ghost use Rattle.listing.specs.Printing.{outcome_line, listing_of};
 
 use lines::RefusalLine;
-use machine::{Counted, Outcome};
+use machine::Outcome;
 use std::alloc::AllocError;
 use std::fmt;
 use std::fmt::{Display, Formatter, Write};
@@ -21,31 +21,32 @@ impl Display for Numbered {
 
     fn fmt<W: Write>(&self, f: &mut Formatter<W>) -> fmt::Result {
         let line = self.line;
-        let (condition, count) = match self.outcome {
-            Outcome::Translated(
-                Counted {
-                    result: Ok(real),
-                    count,
-                },
-            ) => return writeln!(f, "{line}\tR\t{real:x}\t{count}"),
-            Outcome::Put(Ok(())) => return writeln!(f, "{line}\tW"),
-            Outcome::Purged => return writeln!(f, "{line}\tZ"),
-            // no line of a text asks for a fetch or a store
-            Outcome::Loaded(Ok(())) | Outcome::Fetched(_) | Outcome::Stored(_) => return Ok(()),
-            Outcome::Translated(
-                Counted {
-                    result: Err(condition),
-                    count,
-                },
-            ) => (condition, count),
-            Outcome::Loaded(Err(condition)) | Outcome::Put(Err(condition)) => (condition, 0),
-        };
-        let refusal = RefusalLine {
-            line,
-            condition,
-            count,
-        };
-        write!(f, "{refusal}")
+        match self.outcome {
+            Outcome::Translated(translated) => {
+                let count = translated.count;
+                match translated.result {
+                    Ok(real) => writeln!(f, "{line}\tR\t{real:x}\t{count}"),
+                    Err(condition) => RefusalLine {
+                        line,
+                        condition,
+                        count,
+                    }
+                    .fmt(f),
+                }
+            }
+            Outcome::Put(Ok(())) => writeln!(f, "{line}\tW"),
+            Outcome::Purged => writeln!(f, "{line}\tZ"),
+            Outcome::Loaded(Err(condition)) | Outcome::Put(Err(condition)) => {
+                RefusalLine {
+                    line,
+                    condition,
+                    count: 0,
+                }
+                .fmt(f)
+            }
+            // a load that is done goes without saying, and no line of a text asks for a fetch or a store
+            Outcome::Loaded(Ok(())) | Outcome::Fetched(_) | Outcome::Stored(_) => Ok(()),
+        }
     }
 }
 
