@@ -36,9 +36,11 @@ pub enum Condition {
 }
 
 impl Condition {
-    // The code that a listing prints after E.
+    // The code that a listing prints after E. No other condition has it.
+    #[tactic(auto, using(crate::proofs::ConditionCodes::code_tells))]
     pub fn code(self) -> &'static str
-        ensures { result.now ≡ code_of self }
+        ensures code { result.now ≡ code_of self }
+        ensures alone { (other : _) → code_of other ≡ code_of self → other ≡ self }
     {
         match self {
             Condition::BadNumber => "201",
