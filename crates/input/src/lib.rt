@@ -19,7 +19,8 @@ pub const KEYS: usize = 256;
 pub const CALLS: usize = 16384;
 
 // The bytes that the reader gives, in order, until it ends or has given `limit` of them. An interrupted read is tried
-// again; any other error, of the reader or of memory, is passed on.
+// again; any other error, of the reader or of memory, is passed on. (The library has no word for when a reader errs,
+// so no clause says that it did: tests do.)
 pub fn text<R: Read + Drop>(heap: Global, reader: R, limit: usize) -> io::Result<Vec<u8>>
     ensures limit { IfOk result (λ text. vec_len text ≤ limit) }
     ensures bytes { IfOk result (λ text.

@@ -1,10 +1,9 @@
 // The lines of a listing.
-ghost use Rattle.std.specs.Prelude.{◌≡◌, ◌+◌, ◌^◌, ◌<◌, ◌++◌, length, string_bytes, OnOk, Some};
+ghost use Rattle.std.specs.Prelude.{◌+◌, ◌^◌, ◌<◌, length, Some};
 ghost use Rattle.listing.specs.Printing.{outcome_line, listing_of};
 
 use lines::RefusalLine;
 use machine::Outcome;
-use std::alloc::AllocError;
 use std::fmt;
 use std::fmt::{Display, Formatter, Write};
 
@@ -50,21 +49,25 @@ impl Display for Numbered {
     }
 }
 
-// What a listing says of calls that follow one another, the first of them on `line`, at the end of what is
-// written already.
-pub(crate) fn print_outcomes(
-    out: &mut String,
-    line: usize,
-    outcomes: &[Outcome],
-) -> Result<(), AllocError>
-    requires { line + length outcomes.now < 2 ^ 64 }
-    ensures { OnOk result (string_bytes out.new ≡ string_bytes out.old ++ listing_of line outcomes.now) }
-{
-    for (i, outcome) in outcomes.iter().enumerate() {
-        out.write(Numbered {
-            line: line + i,
-            outcome: *outcome,
-        })?;
+// The lines of calls on one line of the text after another, the first of them on `first_line`.
+#[derive(Clone, Copy)]
+pub(crate) struct Listing<'a> {
+    pub(crate) first_line: usize,
+    pub(crate) outcomes: &'a [Outcome],
+    ghost fits: { first_line + length outcomes.now < 2 ^ 64 },
+}
+
+impl Display for Listing<'_> {
+    ghost output = { λ x. Some (listing_of x.first_line x.outcomes.now) };
+
+    fn fmt<W: Write>(&self, f: &mut Formatter<W>) -> fmt::Result {
+        for (i, outcome) in self.outcomes.iter().enumerate() {
+            let numbered = Numbered {
+                line: self.first_line + i,
+                outcome: *outcome,
+            };
+            write!(f, "{numbered}")?;
+        }
+        Ok(())
     }
-    Ok(())
 }
