@@ -1,5 +1,5 @@
 -- Each condition by its code and its printed name.
-use Rattle.std.specs.Prelude.{ℕ, List, codes}
+use Rattle.std.specs.Prelude.{ℕ, List, ◌++◌, codes}
 use Rattle.arch.specs.declared.condition.Condition.{Condition}
 use Rattle.arch.specs.declared.condition.Condition.TheVariants.{BadNumber, BadPrefix, Unaligned, ShortList, AletSpecification, Addressing, AlenTranslation, AleSequence, AsteValidity, AsteSequence, ExtendedAuthority, LowAddress, AsceType, RegionFirst, RegionSecond, RegionThird, Segment, TranslationSpecification, PageTranslation, AccessList, Page, Key, TooMuch, BadText}
 
@@ -54,3 +54,7 @@ name_of Page = codes "page"
 name_of Key = codes "key"
 name_of TooMuch = codes "too-much"
 name_of BadText = codes "bad-text"
+
+-- the code, a tab, the name
+abbrev pub code_and_name : Condition → List ℕ
+code_and_name c = code_of c ++ (codes "\t" ++ name_of c)

@@ -1,6 +1,9 @@
 // The conditions that a call can meet, each with the code and the name that a listing prints.
-ghost use Rattle.std.specs.Prelude.{◌≡◌};
-ghost use Rattle.arch.specs.Conditions.{code_of, name_of};
+ghost use Rattle.std.specs.Prelude.{◌≡◌, Some};
+ghost use Rattle.arch.specs.Conditions.{code_of, name_of, code_and_name};
+
+use std::fmt;
+use std::fmt::{Display, Formatter, Write};
 
 // In the order in which they are tested; an exception that can come at several places stands at the
 // first.
@@ -33,9 +36,11 @@ pub enum Condition {
 }
 
 impl Condition {
-    // The code that a listing prints after E.
+    // The code that a listing prints after E. No other condition has it.
+    #[tactic(auto, using(crate::proofs::ConditionCodes::code_tells))]
     pub fn code(self) -> &'static str
-        ensures { result.now ≡ code_of self }
+        ensures code { result.now ≡ code_of self }
+        ensures alone { (other : _) → code_of other ≡ code_of self → other ≡ self }
     {
         match self {
             Condition::BadNumber => "201",
@@ -95,5 +100,16 @@ impl Condition {
             Condition::TooMuch => "too-much",
             Condition::BadText => "bad-text",
         }
+    }
+}
+
+// As the line of a refusal has it: the code, a tab, the name.
+impl Display for Condition {
+    ghost output = { λ c. Some (code_and_name c) };
+
+    fn fmt<W: Write>(&self, f: &mut Formatter<W>) -> fmt::Result {
+        let code = self.code();
+        let name = self.name();
+        write!(f, "{code}\t{name}")
     }
 }

@@ -7,6 +7,8 @@ type Case = (&'static str, &'static str);
 #[cfg(test)]
 mod accesses;
 #[cfg(test)]
+mod inputs;
+#[cfg(test)]
 mod texts;
 
 #[cfg(test)]

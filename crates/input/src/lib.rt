@@ -1,10 +1,12 @@
-// What the programs share: a run text from standard input, and the room that any run text needs.
+// What the programs share: a run text as it is read, and the room that any run text needs.
 #![tactic(auto)]
 
-ghost use Rattle.std.specs.Prelude.{◌≤◌, length, IfOk};
+ghost use Rattle.std.specs.Prelude.{◌≡◌, ◌≢◌, ◌≤◌, IfOk, IfErr, IfSome, take, vec_len};
+ghost use Rattle.std.specs.IoError.{error_kind};
 
+use std::alloc::Global;
 use std::io;
-use std::io::Read;
+use std::io::{ErrorKind, Read};
 
 // One byte more than the longest text: enough to know that it is too long.
 pub const BYTES: usize = 65537;
@@ -16,18 +18,18 @@ pub const KEYS: usize = 256;
 
 pub const CALLS: usize = 16384;
 
-// Reads standard input until it ends or the bytes are full, and says how many it read.
-pub fn text(rt: &HostRuntime, bytes: &mut [u8]) -> io::Result<usize>
-    ensures { IfOk result (λ n. n ≤ length bytes.old) }
+// The bytes that the reader gives, in order, until it ends or has given `limit` of them. An interrupted read is tried
+// again; any other error, of the reader or of memory, is passed on. (The library has no word for when a reader errs,
+// so no clause says that it did: tests do.)
+pub fn text<R: Read + Drop>(heap: Global, reader: R, limit: usize) -> io::Result<Vec<u8>>
+    ensures limit { IfOk result (λ text. vec_len text ≤ limit) }
+    ensures bytes { IfOk result (λ text.
+        IfSome (R.remaining reader) (λ xs. text.items ≡ take limit xs)) }
+    ensures retried { IfErr result (λ e. error_kind e ≢ ErrorKind.Interrupted) }
 {
-    let mut stdin = rt.stdin();
-    let mut filled = 0;
-    while filled < bytes.len() {
-        let got = stdin.read(&mut bytes[filled..])?;
-        if got == 0 {
-            break;
-        }
-        filled += got;
-    }
-    Ok(filled)
+    let mut text = Vec::new(heap);
+    reader.take(limit as u64).read_to_end(&mut text)?;
+    // Cuts nothing off. But the library says how much a limited reader gives only where its bytes are known.
+    text.truncate(limit);
+    Ok(text)
 }

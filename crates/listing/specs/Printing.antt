@@ -1,14 +1,14 @@
 -- What a listing says of the outcomes of calls.
-use Rattle.std.specs.Prelude.{ℕ, ◌+◌, List, [], ◌∷◌, ◌++◌, Ok, Err, codes, decimal, Result}
+use Rattle.std.specs.Prelude.{ℕ, ◌+◌, false, List, [], ◌∷◌, ◌++◌, Ok, Err, codes, decimal, Result}
+use Rattle.std.specs.Fmt.{digits}
 use Rattle.arch.specs.declared.condition.Condition.{Condition}
 use Rattle.lines.specs.Refusals.{numbered, refusal_line}
 use Rattle.machine.specs.declared.request.Outcome.{Outcome}
 use Rattle.machine.specs.declared.request.Outcome.TheVariants as outcome
-use Rattle.runtext.specs.Numerals.{numeral}
 
 -- of a translation that asked for this many doublewords
 abbrev pub translation_line : ℕ → Result ℕ Condition → ℕ → List ℕ
-translation_line n (Ok real) count = numbered n (codes "R" ∷ numeral real ∷ decimal count ∷ [])
+translation_line n (Ok real) count = numbered n (codes "R" ∷ digits 16 false real ∷ decimal count ∷ [])
 translation_line n (Err met) count = refusal_line n met count
 
 -- of the call on line n; a load or a new prefix that is done goes without saying, and no line of a text makes a fetch

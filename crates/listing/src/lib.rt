@@ -18,7 +18,7 @@ use lookaside::round_robin::{RoundRobin, RoundRobinTable};
 use lookup::kinds::{AccessRegister, Paging};
 use lookup::source::{Source, TableWalk};
 use machine::{Outcome, Request};
-use print::print_outcomes;
+use print::Listing;
 use runtext::{Counts, Refusal};
 use std::alloc::{AllocError, Global};
 use storage::prefix::Prefixed;
@@ -87,18 +87,22 @@ fn list_run<A: Source<AccessRegister>, P: Source<Paging>>(
     requires { length words.old + length keys.now + 2 + length calls.now < 2 ^ 64 }
     ensures { IfOk result (λ out. ListsRun A.Source.shows A.Source.moves A.Source.clears P.Source.shows P.Source.moves P.Source.clears (run_of words.old keys.now calls.now) (string_bytes out) arts.old pages.old arts.new pages.new) }
 {
-    let line = words.len() + keys.len() + 2;
+    let first_line = words.len() + keys.len() + 2;
     let outcomes = record(heap, words, keys, calls, arts, pages)?;
-    let mut out = String::new(heap);
-    print_outcomes(&mut out, line, &outcomes)?;
-    Ok(out)
+    String::format(
+        heap,
+        Listing {
+            first_line,
+            outcomes: &outcomes,
+        },
+    )
 }
 
 // The listing of a refused text.
 fn list_refusal(heap: Global, refusal: Refusal) -> Result<String, AllocError>
     ensures { IfOk result (λ out. string_bytes out ≡ refusal_line refusal.line refusal.condition 0) }
 {
-    String::format(heap, RefusalLine::of_text(refusal))
+    String::format(heap, RefusalLine::from(refusal))
 }
 
 // The listing of a text, given places for all that it says.

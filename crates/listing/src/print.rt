@@ -1,70 +1,73 @@
-// The lines of a listing, each at the end of what is written already.
-ghost use Rattle.std.specs.Prelude.{◌≡◌, ◌+◌, ◌^◌, ◌<◌, ◌++◌, length, string_bytes, OnOk};
-ghost use Rattle.lines.specs.Refusals.{refusal_line};
-ghost use Rattle.listing.specs.Printing.{translation_line, outcome_line, listing_of};
+// The lines of a listing.
+ghost use Rattle.std.specs.Prelude.{◌+◌, ◌^◌, ◌<◌, length, Some};
+ghost use Rattle.listing.specs.Printing.{outcome_line, listing_of};
 
-use arch::condition::Condition;
-use lines::{Hex, RefusalLine};
-use machine::{Counted, Outcome};
-use std::alloc::AllocError;
+use lines::RefusalLine;
+use machine::Outcome;
+use std::fmt;
+use std::fmt::{Display, Formatter, Write};
 
-// The line of a refusal.
-fn print_refusal(
-    out: &mut String,
+// What came of the call on a line of the text. It prints the whole line of the listing with its line end, or
+// nothing where the listing has none.
+#[derive(Clone, Copy)]
+struct Numbered {
     line: usize,
-    condition: Condition,
-    count: usize,
-) -> Result<(), AllocError>
-    ensures { OnOk result (string_bytes out.new ≡ string_bytes out.old ++ refusal_line line condition count) }
-{
-    out.write(RefusalLine {
-        line,
-        condition,
-        count,
-    })
+    outcome: Outcome,
 }
 
-// The line of a translation.
-fn print_translation(out: &mut String, line: usize, outcome: Counted<u64>) -> Result<(), AllocError>
-    ensures { OnOk result (string_bytes out.new ≡ string_bytes out.old ++ translation_line line outcome.result outcome.count) }
-{
-    let count = outcome.count;
-    match outcome.result {
-        Ok(real) => {
-            let real = Hex(real);
-            writeln!(out, "{line}\tR\t{real}\t{count}")
+impl Display for Numbered {
+    ghost output = { λ n. Some (outcome_line n.line n.outcome) };
+
+    fn fmt<W: Write>(&self, f: &mut Formatter<W>) -> fmt::Result {
+        let line = self.line;
+        match self.outcome {
+            Outcome::Translated(translated) => {
+                let count = translated.count;
+                match translated.result {
+                    Ok(real) => writeln!(f, "{line}\tR\t{real:x}\t{count}"),
+                    Err(condition) => RefusalLine {
+                        line,
+                        condition,
+                        count,
+                    }
+                    .fmt(f),
+                }
+            }
+            Outcome::Put(Ok(())) => writeln!(f, "{line}\tW"),
+            Outcome::Purged => writeln!(f, "{line}\tZ"),
+            Outcome::Loaded(Err(condition)) | Outcome::Put(Err(condition)) => {
+                RefusalLine {
+                    line,
+                    condition,
+                    count: 0,
+                }
+                .fmt(f)
+            }
+            // a load that is done goes without saying, and no line of a text asks for a fetch or a store
+            Outcome::Loaded(Ok(())) | Outcome::Fetched(_) | Outcome::Stored(_) => Ok(()),
         }
-        Err(condition) => print_refusal(out, line, condition, count),
     }
 }
 
-// What a listing says of one call.
-fn print_outcome(out: &mut String, line: usize, outcome: Outcome) -> Result<(), AllocError>
-    ensures { OnOk result (string_bytes out.new ≡ string_bytes out.old ++ outcome_line line outcome) }
-{
-    match outcome {
-        Outcome::Loaded(Ok(())) => Ok(()),
-        Outcome::Loaded(Err(condition)) => print_refusal(out, line, condition, 0),
-        Outcome::Translated(counted) => print_translation(out, line, counted),
-        Outcome::Put(Ok(())) => writeln!(out, "{line}\tW"),
-        Outcome::Put(Err(condition)) => print_refusal(out, line, condition, 0),
-        Outcome::Purged => writeln!(out, "{line}\tZ"),
-        // no line of a text asks for these
-        Outcome::Fetched(_) | Outcome::Stored(_) => Ok(()),
-    }
+// The lines of calls on one line of the text after another, the first of them on `first_line`.
+#[derive(Clone, Copy)]
+pub(crate) struct Listing<'a> {
+    pub(crate) first_line: usize,
+    pub(crate) outcomes: &'a [Outcome],
+    ghost fits: { first_line + length outcomes.now < 2 ^ 64 },
 }
 
-// What a listing says of calls that follow one another, the first of them on `line`.
-pub(crate) fn print_outcomes(
-    out: &mut String,
-    line: usize,
-    outcomes: &[Outcome],
-) -> Result<(), AllocError>
-    requires { line + length outcomes.now < 2 ^ 64 }
-    ensures { OnOk result (string_bytes out.new ≡ string_bytes out.old ++ listing_of line outcomes.now) }
-{
-    for (i, outcome) in outcomes.iter().enumerate() {
-        print_outcome(out, line + i, *outcome)?;
+impl Display for Listing<'_> {
+    ghost output = { λ x. Some (listing_of x.first_line x.outcomes.now) };
+
+    fn fmt<W: Write>(&self, f: &mut Formatter<W>) -> fmt::Result {
+        for (i, outcome) in self.outcomes.iter().enumerate() {
+            let numbered = Numbered {
+                line: self.first_line + i,
+                outcome: *outcome,
+            };
+            write!(f, "{numbered}")?;
+        }
+        Ok(())
     }
-    Ok(())
 }

@@ -5,11 +5,10 @@ use input::BYTES;
 
 fn list(rt: &HostRuntime) -> anyhow::Result<()> {
     let heap = rt.alloc();
-    let mut text = vec![in heap; 0u8; BYTES]?;
-    let length = input::text(rt, &mut text)?;
+    let text = input::text(heap, rt.stdin(), BYTES)?;
     let mut arts = listing::stack();
     let mut pages = listing::stack();
-    let listing = listing::list(heap, &text[0..length], &mut arts, &mut pages)?;
+    let listing = listing::list(heap, &text, &mut arts, &mut pages)?;
     rt.print(&listing)?;
     Ok(())
 }

@@ -11,7 +11,7 @@ use std::io::Write;
 
 fn rewrite(rt: &HostRuntime) -> anyhow::Result<()> {
     let heap = rt.alloc();
-    let mut text = vec![in heap; 0u8; BYTES]?;
+    let text = input::text(heap, rt.stdin(), BYTES)?;
     let mut copy = vec![in heap; 0u8; BYTES]?;
     let mut words = vec![in heap; Word {
         address: 0,
@@ -19,19 +19,12 @@ fn rewrite(rt: &HostRuntime) -> anyhow::Result<()> {
     }; WORDS]?;
     let mut keys = vec![in heap; BlockKey { block: 0, key: 0 }; KEYS]?;
     let mut calls = vec![in heap; Call::SetPrefix { prefix: 0 }; CALLS]?;
-    let length = input::text(rt, &mut text)?;
-    match reopened(
-        &text[0..length],
-        &mut words,
-        &mut keys,
-        &mut calls,
-        &mut copy,
-    ) {
+    match reopened(&text, &mut words, &mut keys, &mut calls, &mut copy) {
         Ok(n) => {
             let mut out = rt.stdout();
             out.write_all(&copy[0..n])?;
         }
-        Err(refusal) => rt.print(RefusalLine::of_text(refusal))?,
+        Err(refusal) => rt.print(RefusalLine::from(refusal))?,
     }
     Ok(())
 }
