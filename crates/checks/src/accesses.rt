@@ -5,7 +5,7 @@ use arch::record::{BlockKey, Word};
 use lookaside::direct_mapped::{DirectMapped, DirectMappedTable};
 use lookaside::round_robin::{RoundRobin, RoundRobinTable};
 use lookup::source::TableWalk;
-use machine::{Machine, Outcome, Request};
+use machine::{Machine, Operand, Outcome, Request, Sources};
 use runs::run;
 use std::process::Abort;
 use std::test::Fail;
@@ -24,6 +24,24 @@ fn stack() -> Stack {
                 beneath: TableWalk,
             },
         },
+    }
+}
+
+fn operand(register: u64, address: u64) -> Operand {
+    Operand { register, address }
+}
+
+fn stacks() -> Sources<Stack, Stack> {
+    Sources {
+        access: stack(),
+        page: stack(),
+    }
+}
+
+fn walks() -> Sources<TableWalk, TableWalk> {
+    Sources {
+        access: TableWalk,
+        page: TableWalk,
     }
 }
 
@@ -70,28 +88,22 @@ fn fetches_and_stores(rt: HostRuntime) {
         words: &mut words,
         keys: &keys,
     });
-    let mut arts = TableWalk;
-    let mut pages = stack();
-    let mut machine = Machine::new(&mut arts, &mut pages);
+    let mut sources = Sources {
+        access: TableWalk,
+        page: stack(),
+    };
+    let mut machine = Machine::new(&mut sources);
     let mut list = [0; 12];
     assert_eq!(rt; machine.load_control(1, 0x10000), Ok(()));
     assert_eq!(rt; machine.load_mode(1, 2, 3), Ok(()));
-    let fetched = machine.fetch(&mut storage, &mut arts, &mut pages, 0, 0x103120, &mut list);
+    let fetched = machine.fetch(&mut storage, &mut sources, operand(0, 0x103120), &mut list);
     assert_eq!(rt; fetched.result, Ok(7));
     assert_eq!(rt; fetched.count, 2);
     assert_eq!(rt; list[1], 0x20018);
-    let stored = machine.store(
-        &mut storage,
-        &mut arts,
-        &mut pages,
-        0,
-        0x103120,
-        9,
-        &mut list,
-    );
+    let stored = machine.store(&mut storage, &mut sources, operand(0, 0x103120), 9, &mut list);
     assert_eq!(rt; stored.result, Ok(()));
     assert_eq!(rt; stored.count, 0);
-    let again = machine.fetch(&mut storage, &mut arts, &mut pages, 0, 0x103120, &mut list);
+    let again = machine.fetch(&mut storage, &mut sources, operand(0, 0x103120), &mut list);
     assert_eq!(rt; again.result, Ok(9));
 }
 
@@ -106,28 +118,27 @@ fn refuses_accesses(rt: HostRuntime) {
         words: &mut words,
         keys: &keys,
     });
-    let mut arts = TableWalk;
-    let mut pages = TableWalk;
-    let mut machine = Machine::new(&mut arts, &mut pages);
+    let mut sources = walks();
+    let mut machine = Machine::new(&mut sources);
     let mut list = [0; 12];
     let mut few = [0; 11];
     assert_eq!(rt; machine.load_mode(0, 2, 5), Ok(()));
-    let number = machine.fetch(&mut storage, &mut arts, &mut pages, 16, 0x2001, &mut list);
+    let number = machine.fetch(&mut storage, &mut sources, operand(16, 0x2001), &mut list);
     assert_eq!(rt; number.result, Err(Condition::BadNumber));
-    let unaligned = machine.store(&mut storage, &mut arts, &mut pages, 0, 0x2004, 1, &mut few);
+    let unaligned = machine.store(&mut storage, &mut sources, operand(0, 0x2004), 1, &mut few);
     assert_eq!(rt; unaligned.result, Err(Condition::Unaligned));
-    let short = machine.fetch(&mut storage, &mut arts, &mut pages, 0, 0x2000, &mut few);
+    let short = machine.fetch(&mut storage, &mut sources, operand(0, 0x2000), &mut few);
     assert_eq!(rt; short.result, Err(Condition::ShortList));
-    let absent = machine.fetch(&mut storage, &mut arts, &mut pages, 0, 0x2008, &mut list);
+    let absent = machine.fetch(&mut storage, &mut sources, operand(0, 0x2008), &mut list);
     assert_eq!(rt; absent.result, Err(Condition::Addressing));
-    let guarded = machine.store(&mut storage, &mut arts, &mut pages, 0, 0x2000, 1, &mut list);
+    let guarded = machine.store(&mut storage, &mut sources, operand(0, 0x2000), 1, &mut list);
     assert_eq!(rt; guarded.result, Err(Condition::Key));
     assert_eq!(rt;
-        machine.set_prefix(&mut storage, &mut arts, &mut pages, 0x2000),
+        machine.set_prefix(&mut storage, &mut sources, 0x2000),
         Ok(())
     );
     assert_eq!(rt; machine.load_mode(0, 2, 3), Ok(()));
-    let prefixed = machine.fetch(&mut storage, &mut arts, &mut pages, 0, 0, &mut list);
+    let prefixed = machine.fetch(&mut storage, &mut sources, operand(0, 0), &mut list);
     assert_eq!(rt; prefixed.result, Ok(7));
 }
 
@@ -158,8 +169,7 @@ fn requests_follow_one_another(rt: HostRuntime) -> Result<(), Fail> {
         words: &mut words,
         keys: &keys,
     });
-    let mut arts = stack();
-    let mut pages = stack();
+    let mut sources = stacks();
     let fetch = Request::Fetch {
         register: 0,
         address: 0x103120,
@@ -194,8 +204,7 @@ fn requests_follow_one_another(rt: HostRuntime) -> Result<(), Fail> {
     assert_eq!(rt;
         run(
             &mut storage,
-            &mut arts,
-            &mut pages,
+            &mut sources,
             &requests,
             &mut outcomes,
         ),
@@ -212,12 +221,12 @@ fn requests_follow_one_another(rt: HostRuntime) -> Result<(), Fail> {
 fn any_stack_lists(rt: HostRuntime) -> Result<(), Fail> {
     let text =
         "RUN\t1\nD\t10008\t20000\nD\t20018\t45000\nD\t45120\t0\nK\t10\t0\nK\t20\t0\nK\t45\t0\nC\t1\t10000\nM\t1\t2\t0\nT\tF\t0\t103123\nT\tF\t0\t103123\nW\t20018\t45400\nT\tF\t0\t103123\n";
-    let over_three = listing::list(rt.alloc(), text.as_bytes(), &mut stack(), &mut stack())?;
+    let over_three = listing::list(rt.alloc(), text.as_bytes(), &mut stacks())?;
     assert_eq!(rt;
         over_three.as_str(),
         "10\tR\t45123\t2\n11\tR\t45123\t0\n12\tW\n13\tR\t45123\t0\n"
     );
-    let bare = listing::list(rt.alloc(), text.as_bytes(), &mut TableWalk, &mut TableWalk)?;
+    let bare = listing::list(rt.alloc(), text.as_bytes(), &mut walks())?;
     assert_eq!(rt;
         bare.as_str(),
         "10\tR\t45123\t2\n11\tR\t45123\t2\n12\tW\n13\tE\t11\tpage-translation\t2\n"

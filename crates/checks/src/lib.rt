@@ -14,6 +14,7 @@ mod texts;
 #[cfg(test)]
 mod tests {
     use super::*;
+    use machine::Sources;
     use std::alloc::{AllocError, Global};
     use std::process::Abort;
     use std::test::Fail;
@@ -212,9 +213,11 @@ mod tests {
 
     // The listing of a text with the sources of `listrun`.
     fn listed(heap: Global, text: &str) -> Result<String, AllocError> {
-        let mut arts = listing::stack();
-        let mut pages = listing::stack();
-        listing::list(heap, text.as_bytes(), &mut arts, &mut pages)
+        let mut sources = Sources {
+            access: listing::stack(),
+            page: listing::stack(),
+        };
+        listing::list(heap, text.as_bytes(), &mut sources)
     }
 
     fn lists_as_written(rt: &(impl Abort + AllocGlobal), cases: &[Case]) -> Result<(), Fail> {

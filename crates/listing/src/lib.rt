@@ -17,7 +17,7 @@ use lookaside::direct_mapped::{DirectMapped, DirectMappedTable};
 use lookaside::round_robin::{RoundRobin, RoundRobinTable};
 use lookup::kinds::{AccessRegister, Paging};
 use lookup::source::{Source, TableWalk};
-use machine::{Outcome, Request};
+use machine::{Outcome, Request, Sources};
 use print::Listing;
 use runtext::{Counts, Refusal};
 use std::alloc::{AllocError, Global};
@@ -60,15 +60,14 @@ fn record<A: Source<AccessRegister>, P: Source<Paging>>(
     words: &mut [Word],
     keys: &[BlockKey],
     calls: &[Call],
-    arts: &mut A,
-    pages: &mut P,
+    sources: &mut Sources<A, P>,
 ) -> Result<Vec<Outcome>, AllocError>
-    ensures { IfOk result (λ os. Recorded A.Source.shows A.Source.moves A.Source.clears P.Source.shows P.Source.moves P.Source.clears (run_of words.old keys.now calls.now) os.items arts.old pages.old arts.new pages.new) }
+    ensures { IfOk result (λ os. Recorded A.Source P.Source (run_of words.old keys.now calls.now) os.items sources.old sources.new) }
 {
     let requests = requests(heap, calls)?;
     let mut outcomes = vec![in heap; Outcome::Purged; calls.len()]?;
     let mut storage = Prefixed::new(Sparse { words, keys });
-    match runs::run(&mut storage, arts, pages, &requests, &mut outcomes) {
+    match runs::run(&mut storage, sources, &requests, &mut outcomes) {
         Ok(()) => Ok(outcomes),
         // there is a place for each outcome
         Err(_) => unreachable(),
@@ -81,14 +80,13 @@ fn list_run<A: Source<AccessRegister>, P: Source<Paging>>(
     words: &mut [Word],
     keys: &[BlockKey],
     calls: &[Call],
-    arts: &mut A,
-    pages: &mut P,
+    sources: &mut Sources<A, P>,
 ) -> Result<String, AllocError>
     requires { length words.old + length keys.now + 2 + length calls.now < 2 ^ 64 }
-    ensures { IfOk result (λ out. ListsRun A.Source.shows A.Source.moves A.Source.clears P.Source.shows P.Source.moves P.Source.clears (run_of words.old keys.now calls.now) (string_bytes out) arts.old pages.old arts.new pages.new) }
+    ensures { IfOk result (λ out. ListsRun A.Source P.Source (run_of words.old keys.now calls.now) (string_bytes out) sources.old sources.new) }
 {
     let first_line = words.len() + keys.len() + 2;
-    let outcomes = record(heap, words, keys, calls, arts, pages)?;
+    let outcomes = record(heap, words, keys, calls, sources)?;
     String::format(
         heap,
         Listing {
@@ -112,11 +110,10 @@ fn list_within<A: Source<AccessRegister>, P: Source<Paging>>(
     words: &mut [Word],
     keys: &mut [BlockKey],
     calls: &mut [Call],
-    arts: &mut A,
-    pages: &mut P,
+    sources: &mut Sources<A, P>,
 ) -> Result<String, AllocError>
     requires { length calls.old ≤ 16384 }
-    ensures { IfOk result (λ out. Lists A.Source.shows A.Source.moves A.Source.clears P.Source.shows P.Source.moves P.Source.clears (lent words.old keys.old calls.old) text.now (string_bytes out) arts.old pages.old arts.new pages.new) }
+    ensures { IfOk result (λ out. Lists A.Source P.Source (lent words.old keys.old calls.old) text.now (string_bytes out) sources.old sources.new) }
 {
     match runtext::read(text, words, keys, calls) {
         Ok(n) => {
@@ -130,8 +127,7 @@ fn list_within<A: Source<AccessRegister>, P: Source<Paging>>(
                 &mut words[0..w],
                 &keys[0..k],
                 &calls[0..c],
-                arts,
-                pages,
+                sources,
             )
         }
         Err(refusal) => list_refusal(heap, refusal),
@@ -143,10 +139,9 @@ fn list_within<A: Source<AccessRegister>, P: Source<Paging>>(
 pub fn list<A: Source<AccessRegister>, P: Source<Paging>>(
     heap: Global,
     text: &[u8],
-    arts: &mut A,
-    pages: &mut P,
+    sources: &mut Sources<A, P>,
 ) -> Result<String, AllocError>
-    ensures lists { IfOk result (λ out. Lists A.Source.shows A.Source.moves A.Source.clears P.Source.shows P.Source.moves P.Source.clears places text.now (string_bytes out) arts.old pages.old arts.new pages.new) }
+    ensures lists { IfOk result (λ out. Lists A.Source P.Source places text.now (string_bytes out) sources.old sources.new) }
     ensures room { RoomForAll }
 {
     let mut words = vec![in heap; Word {
@@ -155,5 +150,5 @@ pub fn list<A: Source<AccessRegister>, P: Source<Paging>>(
     }; WORDS]?;
     let mut keys = vec![in heap; BlockKey { block: 0, key: 0 }; KEYS]?;
     let mut calls = vec![in heap; Call::SetPrefix { prefix: 0 }; CALLS]?;
-    list_within(heap, text, &mut words, &mut keys, &mut calls, arts, pages)
+    list_within(heap, text, &mut words, &mut keys, &mut calls, sources)
 }

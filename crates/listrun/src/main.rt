@@ -2,13 +2,16 @@
 #![tactic(auto)]
 
 use input::BYTES;
+use machine::Sources;
 
 fn list(rt: &HostRuntime) -> anyhow::Result<()> {
     let heap = rt.alloc();
     let text = input::text(heap, rt.stdin(), BYTES)?;
-    let mut arts = listing::stack();
-    let mut pages = listing::stack();
-    let listing = listing::list(heap, &text, &mut arts, &mut pages)?;
+    let mut sources = Sources {
+        access: listing::stack(),
+        page: listing::stack(),
+    };
+    let listing = listing::list(heap, &text, &mut sources)?;
     rt.print(&listing)?;
     Ok(())
 }

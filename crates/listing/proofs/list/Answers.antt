@@ -3,7 +3,7 @@ use Rattle.runtext.specs.Runs.{lent}
 use Rattle.std.proofs.lemmas.Result.{IfOk-from_err}
 use Rattle.listing.specs.Listings.{places, Lists}
 use Rattle.listing.proofs.Room.{room_for_all}
-use Rattle.listing.proofs.trace.Goals as goal
+use Rattle.listing.proofs.list.Goals as goal
 
 pub returns-in_err-words : goal.returns-in_err-words
 returns-in_err-words g c = record { lists = search (rules, IfOk-from_err); room = room_for_all }
@@ -22,6 +22,6 @@ returns g c =
     let calls : length c.deref_mut-3.result.now ≡ 16384 = c.deref_mut-3.ensures.len ∙ c.in_ok-calls.ensures.len in
     let all : lent c.deref_mut.result.now c.deref_mut-2.result.now c.deref_mut-3.result.now ≡ places = λ i. record { words = words i; keys = keys i; calls = calls i } in
     record {
-      lists = subst (λ p. IfOk c.list_within.result (λ out. Lists g.A.Source.shows g.A.Source.moves g.A.Source.clears g.P.Source.shows g.P.Source.moves g.P.Source.clears p c.args.text.now (string_bytes out) c.args.arts.now c.args.pages.now c.list_within.new.arts c.list_within.new.pages)) all c.list_within.ensures;
+      lists = subst (λ p. IfOk c.list_within.result (λ out. Lists g.A.Source g.P.Source p c.args.text.now (string_bytes out) c.args.sources.now c.list_within.new.sources)) all c.list_within.ensures;
       room = room_for_all;
     }

@@ -19,13 +19,13 @@ returns g c =
     let called : c.deref.result.now ≡ map Line c.args.calls.now = c.deref.ensures.value ∙ c.in_ok-requests.ensures in
     let many : length c.deref.result.now ≡ length c.args.calls.now = ap length called ∙ length-map c.args.calls.now Line in
     let after = sparse_view c.run.new.storage.beneath.words.now c.run.new.storage.beneath.keys.now in
-    let made = λ (before : View). Ran g.A.Source.shows g.A.Source.moves g.A.Source.clears g.P.Source.shows g.P.Source.moves g.P.Source.clears before c.args.arts.now c.args.pages.now c.deref.result.now (take (length c.deref.result.now) c.run.new.outcomes) after c.run.new.arts c.run.new.pages in
+    let made = λ (before : View). Ran g.A.Source g.P.Source before c.args.sources.now c.deref.result.now (take (length c.deref.result.now) c.run.new.outcomes) after c.run.new.sources in
     let told = subst made (ap (λ s. sparse_view s.words.now s.keys.now) c.new-storage.ensures.under) c.in-Ok.ensures.law in
-    subst (λ os. Recorded g.A.Source.shows g.A.Source.moves g.A.Source.clears g.P.Source.shows g.P.Source.moves g.P.Source.clears q os c.args.arts.now c.args.pages.now c.run.new.arts c.run.new.pages) (sym (take_at c.run.new.outcomes _ v.len full))
+    subst (λ os. Recorded g.A.Source g.P.Source q os c.args.sources.now c.run.new.sources) (sym (take_at c.run.new.outcomes _ v.len full))
     (record {
       whole = whole;
       after = after;
-      ran = subst₂ (λ cs os. Ran g.A.Source.shows g.A.Source.moves g.A.Source.clears g.P.Source.shows g.P.Source.moves g.P.Source.clears (sparse_view c.args.words.now c.args.keys.now) c.args.arts.now c.args.pages.now cs os after c.run.new.arts c.run.new.pages) called (take_all (length c.deref.result.now) c.run.new.outcomes (omega arith)) told;
+      ran = subst₂ (λ cs os. Ran g.A.Source g.P.Source (sparse_view c.args.words.now c.args.keys.now) c.args.sources.now cs os after c.run.new.sources) called (take_all (length c.deref.result.now) c.run.new.outcomes (omega arith)) told;
     })
 
 pub unreachable-requires : goal.unreachable-requires
