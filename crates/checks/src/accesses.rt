@@ -100,7 +100,13 @@ fn fetches_and_stores(rt: HostRuntime) {
     assert_eq!(rt; fetched.result, Ok(7));
     assert_eq!(rt; fetched.count, 2);
     assert_eq!(rt; list[1], 0x20018);
-    let stored = machine.store(&mut storage, &mut sources, operand(0, 0x103120), 9, &mut list);
+    let stored = machine.store(
+        &mut storage,
+        &mut sources,
+        operand(0, 0x103120),
+        9,
+        &mut list,
+    );
     assert_eq!(rt; stored.result, Ok(()));
     assert_eq!(rt; stored.count, 0);
     let again = machine.fetch(&mut storage, &mut sources, operand(0, 0x103120), &mut list);
@@ -202,12 +208,7 @@ fn requests_follow_one_another(rt: HostRuntime) -> Result<(), Fail> {
     ];
     let mut outcomes = [Outcome::Purged; 8];
     assert_eq!(rt;
-        run(
-            &mut storage,
-            &mut sources,
-            &requests,
-            &mut outcomes,
-        ),
+        run(&mut storage, &mut sources, &requests, &mut outcomes,),
         Ok(())
     );
     fetched(&rt, outcomes[2], Ok(7), 2)?;

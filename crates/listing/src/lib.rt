@@ -122,13 +122,7 @@ fn list_within<A: Source<AccessRegister>, P: Source<Paging>>(
                 keys: k,
                 calls: c,
             } = n;
-            list_run(
-                heap,
-                &mut words[0..w],
-                &keys[0..k],
-                &calls[0..c],
-                sources,
-            )
+            list_run(heap, &mut words[0..w], &keys[0..k], &calls[0..c], sources)
         }
         Err(refusal) => list_refusal(heap, refusal),
     }

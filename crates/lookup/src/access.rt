@@ -4,8 +4,8 @@ ghost use Rattle.arch.specs.Walks.{Walks};
 ghost use Rattle.lookup.specs.Access.{access_limit, locate as locating, entry_first, entry as entering, aste_first, aste_sequence, aste as second_table, secondary as has_secondary, authorized as authorizing, access_walk};
 
 use crate::step::{check, read};
-use arch::bits::{field, flag};
 use crate::trace::Trace;
+use arch::bits::{field, flag};
 use arch::condition::Condition;
 use storage::storage::Storage;
 
@@ -36,11 +36,7 @@ struct AccessEntry {
 }
 
 // The address of the access-list entry.
-fn locate<S: Storage>(
-    storage: &S,
-    key: AccessKey,
-    trace: &mut Trace,
-) -> Result<u128, Condition>
+fn locate<S: Storage>(storage: &S, key: AccessKey, trace: &mut Trace) -> Result<u128, Condition>
     requires { length trace.old.items + 1 ≤ 12 }
     ensures walked { Walks 1 access_limit (S.view storage.now).word (locating key) trace.old.items trace.new.items result }
     ensures small { IfOk result (λ at. at < 2 ^ 64) }
@@ -92,46 +88,33 @@ fn entry<S: Storage>(
 }
 
 // The first doubleword of the ASTE, the ASN-second-table entry, valid.
-fn aste_first<S: Storage>(
-    storage: &S,
-    second: u64,
-    trace: &mut Trace,
-) -> Result<u64, Condition>
+fn aste_first<S: Storage>(storage: &S, second: u64, trace: &mut Trace) -> Result<u64, Condition>
     requires { length trace.old.items + 1 ≤ 12 }
     ensures { Walks 1 access_limit (S.view storage.now).word (aste_first second) trace.old.items trace.new.items result }
 {
-    let first = read(
-        storage,
-        u128::from(field(second, 1, 25) * 64),
-        LIMIT, trace)?;
+    let first = read(storage, u128::from(field(second, 1, 25) * 64), LIMIT, trace)?;
     check(Condition::AsteValidity, flag(first, 0))?;
     Ok(first)
 }
 
 // Its third doubleword has the sequence number of the access-list entry.
-fn aste_sequence<S: Storage>(
-    storage: &S,
-    second: u64,
-    trace: &mut Trace,
-) -> Result<(), Condition>
+fn aste_sequence<S: Storage>(storage: &S, second: u64, trace: &mut Trace) -> Result<(), Condition>
     requires { length trace.old.items + 1 ≤ 12 }
     ensures { Walks 1 access_limit (S.view storage.now).word (aste_sequence second) trace.old.items trace.new.items result }
 {
     let third = read(
         storage,
         u128::from(field(second, 1, 25) * 64 + 16),
-        LIMIT, trace)?;
+        LIMIT,
+        trace,
+    )?;
     check(
         Condition::AsteSequence,
         field(second, 32, 63) != field(third, 32, 63),
     )
 }
 
-fn aste<S: Storage>(
-    storage: &S,
-    second: u64,
-    trace: &mut Trace,
-) -> Result<u64, Condition>
+fn aste<S: Storage>(storage: &S, second: u64, trace: &mut Trace) -> Result<u64, Condition>
     requires { length trace.old.items + 2 ≤ 12 }
     ensures { Walks 2 access_limit (S.view storage.now).word (second_table second) trace.old.items trace.new.items result }
 {
@@ -194,7 +177,9 @@ pub(crate) fn walk<S: Storage>(
     let asce = read(
         storage,
         u128::from(field(found.second, 1, 25) * 64 + 8),
-        LIMIT, trace)?;
+        LIMIT,
+        trace,
+    )?;
     Ok(AccessAnswer {
         asce,
         fetch_only: flag(found.first, 6),

@@ -9,9 +9,9 @@ ghost use Rattle.std.proofs.Common.{rules};
 use crate::access::{AccessAnswer, AccessKey};
 use crate::kind::Kind;
 use crate::page::{PageAnswer, PageKey};
+use crate::trace::Trace;
 use crate::words::Words;
 use crate::{access, page};
-use crate::trace::Trace;
 use arch::condition::Condition;
 use storage::storage::Storage;
 

@@ -4,8 +4,8 @@ ghost use Rattle.arch.specs.Walks.{Walks};
 ghost use Rattle.lookup.specs.Pages.{page_limit, level_condition, index as table_index, outside, table_below, table_of, valid_entry, table_entry as entry_of, page_entry as final_entry, descend as descending, through_tables as by_tables, page_walk};
 
 use crate::step::{check, read};
-use arch::bits::{field, flag};
 use crate::trace::Trace;
+use arch::bits::{field, flag};
 use arch::condition::Condition;
 use storage::storage::Storage;
 
@@ -123,7 +123,9 @@ fn table_entry<S: Storage>(
     valid_entry(
         storage,
         level,
-        u128::from(table.origin) + 8 * u128::from(index), trace)
+        u128::from(table.origin) + 8 * u128::from(index),
+        trace,
+    )
 }
 
 // The page entry under a segment entry.
@@ -137,10 +139,7 @@ fn page_entry<S: Storage>(
     ensures { Walks 1 page_limit (S.view storage.now).word (final_entry segment page) trace.old.items trace.new.items result }
 {
     let origin = u128::from(field(segment, 0, 52)) * 2048;
-    let entry = read(
-        storage,
-        origin + u128::from(8 * (page % 256)),
-        LIMIT, trace)?;
+    let entry = read(storage, origin + u128::from(8 * (page % 256)), LIMIT, trace)?;
     check(Condition::PageTranslation, flag(entry, 53))?;
     check(
         Condition::TranslationSpecification,
@@ -193,7 +192,9 @@ fn descend<S: Storage>(
         level - 1,
         Table::below(entry),
         private,
-        page, trace)
+        page,
+        trace,
+    )
 }
 
 // Through the tables that an element designates.
@@ -208,12 +209,7 @@ fn through_tables<S: Storage>(
 {
     let level = field(asce, 60, 61) as u8;
     check(Condition::AsceType, (page >> (8 + 11 * level)) / 2048 != 0)?;
-    descend(
-        storage,
-        level,
-        Table::of(asce),
-        flag(asce, 55),
-        page, trace)
+    descend(storage, level, Table::of(asce), flag(asce, 55), page, trace)
 }
 
 // The whole lookup, walked afresh. In a real space the frame is the page, unprotected.

@@ -130,7 +130,7 @@ module _ (r : Registers) (m_real n_real : View) (m_shown n_shown : Shown) (acces
       then_alike m_real.word n_real.word (real_of (ask_page m) access space a) (real_of (ask_page n) access space a) (λ real. reached r m_real access real) (λ real. reached r n_real access real)
       (real_alike m_real.word n_real.word (ask_page m) (ask_page n) access space a
       (λ k asks t. asked_alike m_real.word n_real.word (λ w. page_fresh w k) (page_sees_only_its_trace k) (m_shown.page k) (n_shown.page k)
-        (alike.page_shown k (ap (λ b. cond b None (page_key_asked m access o)) refused ∙ ap (page_asked r access a) found ∙ ap (λ b. cond b None (space_asks space a)) free ∙ asks)) t))
+      (alike.page_shown k (ap (λ b. cond b None (page_key_asked m access o)) refused ∙ ap (page_asked r access a) found ∙ ap (λ b. cond b None (space_asks space a)) free ∙ asks)) t))
       (λ real e t.
       let rest = then (space_seen m) (λ space. then (unless LowAddress (low_protected r access a)) (λ _. real_of (ask_page m) access space a)) in
       let seen = ap (λ b. (then (unless BadNumber b) (λ _. then (unless ShortList (ltb places 12)) (λ _. rest))).result) number
@@ -152,7 +152,7 @@ module _ (r : Registers) (m_real n_real : View) (m_shown n_shown : Shown) (acces
   same_answer =
       then_alike m_real.word n_real.word (unless BadNumber (ltb 15 o.register)) (unless BadNumber (ltb 15 o.register)) (λ _. then (unless ShortList (ltb places 12)) (λ _. then (space_seen m) (late m))) (λ _. then (unless ShortList (ltb places 12)) (λ _. then (space_seen n) (late n))) (λ _. refl)
       (λ u number h. then_alike m_real.word n_real.word (unless ShortList (ltb places 12)) (unless ShortList (ltb places 12)) (λ _. then (space_seen m) (late m)) (λ _. then (space_seen n) (late n)) (λ _. refl)
-        (λ u' room h'. reach_alike (unless_passed BadNumber (ltb 15 o.register) u number) (unless_passed ShortList (ltb places 12) u' room) h') h)
+      (λ u' room h'. reach_alike (unless_passed BadNumber (ltb 15 o.register) u number) (unless_passed ShortList (ltb places 12) u' room) h') h)
       alike.listed
 
 pub answers_alike : NothingElseMatters

@@ -52,10 +52,10 @@ refuses_access o places = nat_lt 15 o.register || (not (o.address % 8 == 0) || n
 abbrev pub accesses : Access → Operand → ℕ → Translating ℕ
 accesses access o places = record {
   gives = λ n.
-    then (unless BadNumber (nat_lt 15 o.register))
-    (λ _. then (unless Unaligned (not (o.address % 8 == 0)))
-    (λ _. then (unless ShortList (nat_lt places 12))
-    (λ _. (translates access o places).gives n)));
+      then (unless BadNumber (nat_lt 15 o.register))
+      (λ _. then (unless Unaligned (not (o.address % 8 == 0)))
+      (λ _. then (unless ShortList (nat_lt places 12))
+      (λ _. (translates access o places).gives n)));
   access_key = λ n. unless_refused (refuses_access o places) (access_key_asked n o);
   page_key = λ n. unless_refused (refuses_access o places) (page_key_asked n access o);
 }

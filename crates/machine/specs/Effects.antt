@@ -61,8 +61,8 @@ loads r loaded = record (says r (outcome.Loaded (load_result loaded))) { registe
 -- a new prefix purges both sources
 abbrev pub sets_prefix : Registers → ℕ → Effect
 sets_prefix r p = cond (lawful_prefix p)
-  (record { outcome = outcome.Loaded (Ok tt); registers = record r { prefix = p }; puts = None; access = purged; page = purged })
-  (says r (outcome.Loaded (Err BadPrefix)))
+    (record { outcome = outcome.Loaded (Ok tt); registers = record r { prefix = p }; puts = None; access = purged; page = purged })
+    (says r (outcome.Loaded (Err BadPrefix)))
 
 abbrev pub purges : Registers → SourceName → Effect
 purges r AccessRegister = record (says r outcome.Purged) { access = purged }

@@ -49,7 +49,7 @@ impl Machine {
             storage.old storage.new }
         ensures order { OrderedOverBare (scene S.Storage A.Source P.Source self.old storage.old sources.old)
             (fetch_store_conditions self.old (prefixed self.old.prefix (S.view storage.old.beneath)) access operand
-                (length list.old))
+            (length list.old))
             (real_found self.old (prefixed self.old.prefix (S.view storage.old.beneath)) access operand)
             result.result }
         ensures law { AnswersFresh (accesses access operand (length list.old))
@@ -82,7 +82,7 @@ impl Machine {
             sources.old list.old result sources.new list.new }
         ensures value { (real : ℕ)
             → ((accesses Fetch operand (length list.old)).gives
-                (scene S.Storage A.Source P.Source self.old storage.old sources.old)).result ≡ Ok real
+            (scene S.Storage A.Source P.Source self.old storage.old sources.old)).result ≡ Ok real
             → result.result ≡ Ok (value_at (prefixed self.old.prefix (S.view storage.old.beneath)).word real) }
         ensures registers { self.new ≡ self.old }
         ensures storage { storage.new.beneath ≡ storage.old.beneath }
@@ -90,9 +90,9 @@ impl Machine {
             storage.old storage.new }
         ensures order { OrderedOverBare (scene S.Storage A.Source P.Source self.old storage.old sources.old)
             (fetch_store_conditions self.old (prefixed self.old.prefix (S.view storage.old.beneath)) Fetch operand
-                (length list.old))
+            (length list.old))
             (value_at (prefixed self.old.prefix (S.view storage.old.beneath)).word
-                (real_found self.old (prefixed self.old.prefix (S.view storage.old.beneath)) Fetch operand))
+            (real_found self.old (prefixed self.old.prefix (S.view storage.old.beneath)) Fetch operand))
             result.result }
         ensures law { AnswersFresh (fetches operand (length list.old))
             (scene S.Storage A.Source P.Source self.old storage.old sources.old) result.result
@@ -124,18 +124,18 @@ impl Machine {
             sources.old list.old result sources.new list.new }
         ensures done { (real : ℕ)
             → ((accesses Store operand (length list.old)).gives
-                (scene S.Storage A.Source P.Source self.old storage.old sources.old)).result ≡ Ok real
+            (scene S.Storage A.Source P.Source self.old storage.old sources.old)).result ≡ Ok real
             → result.result ≡ Ok tt }
         ensures registers { self.new ≡ self.old }
         ensures storage { S.view storage.new.beneath ≡ after_puts_under self.old.prefix
             (stored_by ((accesses Store operand (length list.old)).gives
-                (scene S.Storage A.Source P.Source self.old storage.old sources.old)).result value)
+            (scene S.Storage A.Source P.Source self.old storage.old sources.old)).result value)
             (S.view storage.old.beneath) }
         ensures layer { LayerAfter (refuses_access operand (length list.old)) self.old.prefix
             storage.old storage.new }
         ensures order { OrderedOverBare (scene S.Storage A.Source P.Source self.old storage.old sources.old)
             (fetch_store_conditions self.old (prefixed self.old.prefix (S.view storage.old.beneath)) Store operand
-                (length list.old))
+            (length list.old))
             tt result.result }
         ensures law { AnswersFresh (stores operand (length list.old))
             (scene S.Storage A.Source P.Source self.old storage.old sources.old) result.result

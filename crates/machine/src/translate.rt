@@ -39,7 +39,7 @@ impl Machine {
             storage.old storage.new }
         ensures order { OrderedOverBare (scene S.Storage A.Source P.Source self.old storage.old sources.old)
             (translation_conditions self.old (prefixed self.old.prefix (S.view storage.old.beneath)) access operand
-                (length list.old))
+            (length list.old))
             (real_found self.old (prefixed self.old.prefix (S.view storage.old.beneath)) access operand)
             result.result }
         ensures law { AnswersFresh (translates access operand (length list.old))
@@ -47,9 +47,9 @@ impl Machine {
             (held A.Source P.Source sources.old) (held A.Source P.Source sources.new) }
         ensures alike { (n : Scene)
             → Alike (scene S.Storage A.Source P.Source self.old storage.old sources.old) n
-                access operand (length list.old)
+            access operand (length list.old)
             → AnswersAlike (scene S.Storage A.Source P.Source self.old storage.old sources.old) n
-                access operand (length list.old) }
+            access operand (length list.old) }
     {
         if operand.register > 15 {
             return Counted::refused(Condition::BadNumber);

@@ -22,7 +22,7 @@ pub fn run<S: Storage, A: Source<AccessRegister>, P: Source<Paging>>(
 ) -> Result<(), Condition>
     ensures law { MatchResult result
         (λ _. Ran A.Source P.Source (S.view storage.old.beneath) sources.old calls.now
-            (take (length calls.now) outcomes.new) (S.view storage.new.beneath) sources.new)
+        (take (length calls.now) outcomes.new) (S.view storage.new.beneath) sources.new)
         (λ e. (e ≡ ShortList) × (length outcomes.old < length calls.now)) }
     ensures alike { NothingElseMatters }
     ensures refused { MatchResult result

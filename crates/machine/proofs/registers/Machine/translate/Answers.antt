@@ -14,8 +14,8 @@ returns g c =
     let places = length a.list.now in
     let reached = c.reach-real.ensures in
     let makes = made g.S.Storage g.A.Source g.P.Source a.self.now a.sources.now c.reach-real.new.sources a.access a.operand a.storage.now c.load_prefix.new.self a.list.now c.of.new.list _ c.reach-real.new.trace.items c.reach-real.result c.of.result
-      (search rules) c.load_prefix.ensures.under (search rules) (search rules) c.new-trace.ensures
-      (record { gives = reached.gives; asks_access = reached.access; asks_page = reached.page }) c.of.ensures in
+    (search rules) c.load_prefix.ensures.under (search rules) (search rules) c.new-trace.ensures
+    (record { gives = reached.gives; asks_access = reached.access; asks_page = reached.page }) c.of.ensures in
     record {
       makes = makes;
       registers = search rules;
@@ -23,7 +23,7 @@ returns g c =
       layer = search rules;
       order = λ bare. makes.reports.result ∙ translation_ordered (scene g.S.Storage g.A.Source g.P.Source a.self.now a.storage.now a.sources.now) a.access a.operand places bare;
       law = answers_fresh g.A.Source g.P.Source (λ s k a e. g.met.A.Source.shown_is_held s k a e) (λ s k a e. g.met.P.Source.shown_is_held s k a e)
-        (translates a.access a.operand places) (translates_same a.access a.operand places) a.self.now (prefixed a.self.now.prefix (g.S.Storage.view a.storage.now.beneath)) a.sources.now _ a.list.now _ _ makes;
+          (translates a.access a.operand places) (translates_same a.access a.operand places) a.self.now (prefixed a.self.now.prefix (g.S.Storage.view a.storage.now.beneath)) a.sources.now _ a.list.now _ _ makes;
       alike = λ n. answers_alike _ n a.access a.operand places;
     }
 
