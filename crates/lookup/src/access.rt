@@ -38,7 +38,8 @@ struct AccessEntry {
 // The address of the access-list entry.
 fn locate<S: Storage>(storage: &S, key: AccessKey, trace: &mut Trace) -> Result<u128, Condition>
     requires { length trace.old.items + 1 ≤ 12 }
-    ensures walked { Walks 1 access_limit (S.view storage.now).word (locating key) trace.old.items trace.new.items result }
+    ensures walked { Walks 1 access_limit (S.view storage.now).word (locating key)
+        trace.old.items trace.new.items result }
     ensures small { IfOk result (λ at. at < 2 ^ 64) }
 {
     let alet = u64::from(key.alet);
@@ -60,7 +61,8 @@ fn entry_first<S: Storage>(
     trace: &mut Trace,
 ) -> Result<u64, Condition>
     requires { length trace.old.items + 1 ≤ 12 }
-    ensures { Walks 1 access_limit (S.view storage.now).word (entry_first key at) trace.old.items trace.new.items result }
+    ensures { Walks 1 access_limit (S.view storage.now).word (entry_first key at)
+        trace.old.items trace.new.items result }
 {
     let first = read(storage, at, LIMIT, trace)?;
     check(Condition::AlenTranslation, flag(first, 0))?;
@@ -80,7 +82,8 @@ fn entry<S: Storage>(
 ) -> Result<AccessEntry, Condition>
     requires small { at < 2 ^ 64 }
     requires room { length trace.old.items + 2 ≤ 12 }
-    ensures { Walks 2 access_limit (S.view storage.now).word (entering key at) trace.old.items trace.new.items result }
+    ensures { Walks 2 access_limit (S.view storage.now).word (entering key at)
+        trace.old.items trace.new.items result }
 {
     let first = entry_first(storage, key, at, trace)?;
     let second = read(storage, at + 8, LIMIT, trace)?;
@@ -90,7 +93,8 @@ fn entry<S: Storage>(
 // The first doubleword of the ASTE, the ASN-second-table entry, valid.
 fn aste_first<S: Storage>(storage: &S, second: u64, trace: &mut Trace) -> Result<u64, Condition>
     requires { length trace.old.items + 1 ≤ 12 }
-    ensures { Walks 1 access_limit (S.view storage.now).word (aste_first second) trace.old.items trace.new.items result }
+    ensures { Walks 1 access_limit (S.view storage.now).word (aste_first second)
+        trace.old.items trace.new.items result }
 {
     let first = read(storage, u128::from(field(second, 1, 25) * 64), LIMIT, trace)?;
     check(Condition::AsteValidity, flag(first, 0))?;
@@ -100,7 +104,8 @@ fn aste_first<S: Storage>(storage: &S, second: u64, trace: &mut Trace) -> Result
 // Its third doubleword has the sequence number of the access-list entry.
 fn aste_sequence<S: Storage>(storage: &S, second: u64, trace: &mut Trace) -> Result<(), Condition>
     requires { length trace.old.items + 1 ≤ 12 }
-    ensures { Walks 1 access_limit (S.view storage.now).word (aste_sequence second) trace.old.items trace.new.items result }
+    ensures { Walks 1 access_limit (S.view storage.now).word (aste_sequence second)
+        trace.old.items trace.new.items result }
 {
     let third = read(
         storage,
@@ -116,7 +121,8 @@ fn aste_sequence<S: Storage>(storage: &S, second: u64, trace: &mut Trace) -> Res
 
 fn aste<S: Storage>(storage: &S, second: u64, trace: &mut Trace) -> Result<u64, Condition>
     requires { length trace.old.items + 2 ≤ 12 }
-    ensures { Walks 2 access_limit (S.view storage.now).word (second_table second) trace.old.items trace.new.items result }
+    ensures { Walks 2 access_limit (S.view storage.now).word (second_table second)
+        trace.old.items trace.new.items result }
 {
     let first = aste_first(storage, second, trace)?;
     aste_sequence(storage, second, trace)?;
@@ -131,7 +137,8 @@ fn secondary<S: Storage>(
     trace: &mut Trace,
 ) -> Result<(), Condition>
     requires { length trace.old.items + 1 ≤ 12 }
-    ensures { Walks 1 access_limit (S.view storage.now).word (has_secondary eax aste) trace.old.items trace.new.items result }
+    ensures { Walks 1 access_limit (S.view storage.now).word (has_secondary eax aste)
+        trace.old.items trace.new.items result }
 {
     let index = u64::from(eax);
     check(
@@ -153,7 +160,8 @@ fn authorized<S: Storage>(
     trace: &mut Trace,
 ) -> Result<(), Condition>
     requires { length trace.old.items + 1 ≤ 12 }
-    ensures { Walks 1 access_limit (S.view storage.now).word (authorizing key first aste) trace.old.items trace.new.items result }
+    ensures { Walks 1 access_limit (S.view storage.now).word (authorizing key first aste)
+        trace.old.items trace.new.items result }
 {
     if flag(first, 7) && field(first, 16, 31) != u64::from(key.eax) {
         return secondary(storage, key.eax, aste, trace);
@@ -168,7 +176,8 @@ pub(crate) fn walk<S: Storage>(
     trace: &mut Trace,
 ) -> Result<AccessAnswer, Condition>
     requires { length trace.old.items + 7 ≤ 12 }
-    ensures { Walks 7 access_limit (S.view storage.now).word (access_walk key) trace.old.items trace.new.items result }
+    ensures { Walks 7 access_limit (S.view storage.now).word (access_walk key)
+        trace.old.items trace.new.items result }
 {
     let at = locate(storage, key, trace)?;
     let found = entry(storage, key, at, trace)?;

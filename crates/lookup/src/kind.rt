@@ -42,7 +42,8 @@ pub trait Kind {
         trace: &mut Trace,
     ) -> Result<Self::Answer, Condition>
         requires { length trace.old.items + most_reads ≤ 12 }
-        ensures gives { Gives most_reads (fresh (S.view storage.now).word key) trace.old.items trace.new.items result }
+        ensures gives { Gives most_reads (fresh (S.view storage.now).word key)
+            trace.old.items trace.new.items result }
         ensures order { Ordered (conditions (S.view storage.now).word key) (finds (S.view storage.now).word key) result };
 
     fn spell(key: Self::Key) -> Words

@@ -95,7 +95,8 @@ fn valid_entry<S: Storage>(
     trace: &mut Trace,
 ) -> Result<u64, Condition>
     requires { length trace.old.items + 1 ≤ 12 }
-    ensures { Walks 1 page_limit (S.view storage.now).word (valid_entry level at) trace.old.items trace.new.items result }
+    ensures { Walks 1 page_limit (S.view storage.now).word (valid_entry level at)
+        trace.old.items trace.new.items result }
 {
     let entry = read(storage, at, LIMIT, trace)?;
     check(condition_of(level), flag(entry, 58))?;
@@ -116,7 +117,8 @@ fn table_entry<S: Storage>(
 ) -> Result<u64, Condition>
     requires level { level < 4 }
     requires room { length trace.old.items + 1 ≤ 12 }
-    ensures { Walks 1 page_limit (S.view storage.now).word (entry_of level table page) trace.old.items trace.new.items result }
+    ensures { Walks 1 page_limit (S.view storage.now).word (entry_of level table page)
+        trace.old.items trace.new.items result }
 {
     let index = index(level, page);
     check(condition_of(level), table.lacks(index))?;
@@ -136,7 +138,8 @@ fn page_entry<S: Storage>(
     trace: &mut Trace,
 ) -> Result<PageAnswer, Condition>
     requires { length trace.old.items + 1 ≤ 12 }
-    ensures { Walks 1 page_limit (S.view storage.now).word (final_entry segment page) trace.old.items trace.new.items result }
+    ensures { Walks 1 page_limit (S.view storage.now).word (final_entry segment page)
+        trace.old.items trace.new.items result }
 {
     let origin = u128::from(field(segment, 0, 52)) * 2048;
     let entry = read(storage, origin + u128::from(8 * (page % 256)), LIMIT, trace)?;
@@ -160,7 +163,8 @@ fn segment<S: Storage>(
     trace: &mut Trace,
 ) -> Result<PageAnswer, Condition>
     requires { length trace.old.items + 2 ≤ 12 }
-    ensures { Walks 2 page_limit (S.view storage.now).word (descending 0 table private page) trace.old.items trace.new.items result }
+    ensures { Walks 2 page_limit (S.view storage.now).word (descending 0 table private page)
+        trace.old.items trace.new.items result }
 {
     let entry = table_entry(storage, 0, table, page, trace)?;
     check(
@@ -181,7 +185,8 @@ fn descend<S: Storage>(
 ) -> Result<PageAnswer, Condition>
     requires level { level < 4 }
     requires room { length trace.old.items + (level + 2) ≤ 12 }
-    ensures { Walks (level + 2) page_limit (S.view storage.now).word (descending level table private page) trace.old.items trace.new.items result }
+    ensures { Walks (level + 2) page_limit (S.view storage.now).word (descending level table private page)
+        trace.old.items trace.new.items result }
 {
     if level == 0 {
         return segment(storage, table, private, page, trace);
@@ -205,7 +210,8 @@ fn through_tables<S: Storage>(
     trace: &mut Trace,
 ) -> Result<PageAnswer, Condition>
     requires { length trace.old.items + 5 ≤ 12 }
-    ensures { Walks 5 page_limit (S.view storage.now).word (by_tables asce page) trace.old.items trace.new.items result }
+    ensures { Walks 5 page_limit (S.view storage.now).word (by_tables asce page)
+        trace.old.items trace.new.items result }
 {
     let level = field(asce, 60, 61) as u8;
     check(Condition::AsceType, (page >> (8 + 11 * level)) / 2048 != 0)?;
@@ -219,7 +225,8 @@ pub(crate) fn walk<S: Storage>(
     trace: &mut Trace,
 ) -> Result<PageAnswer, Condition>
     requires { length trace.old.items + 5 ≤ 12 }
-    ensures { Walks 5 page_limit (S.view storage.now).word (page_walk key) trace.old.items trace.new.items result }
+    ensures { Walks 5 page_limit (S.view storage.now).word (page_walk key)
+        trace.old.items trace.new.items result }
 {
     if flag(key.asce, 58) {
         return Ok(PageAnswer {

@@ -30,7 +30,8 @@ pub trait Source<K: Kind> {
         trace: &mut Trace,
     ) -> Result<K::Answer, Condition>
         requires { length trace.old.items + K.most_reads ≤ 12 }
-        ensures gives { Gives K.most_reads (asked (shows self.old key) (K.fresh (S.view storage.now).word key)) trace.old.items trace.new.items result }
+        ensures gives { Gives K.most_reads (asked (shows self.old key) (K.fresh (S.view storage.now).word key))
+            trace.old.items trace.new.items result }
         ensures keeps { Kept K.fits (K.fresh (S.view storage.now).word) (holds self.old) (holds self.new) }
         ensures after { after_ask self.old (K.fresh (S.view storage.now).word) key self.new };
 

@@ -17,7 +17,8 @@ pub(crate) fn read<S: Storage>(
 ) -> Result<u64, Condition>
     requires limit { limit ≤ 2 ^ 64 }
     requires room { length trace.old.items < 12 }
-    ensures { Walks 1 limit (S.view storage.now).word (reading at) trace.old.items trace.new.items result }
+    ensures { Walks 1 limit (S.view storage.now).word (reading at)
+        trace.old.items trace.new.items result }
 {
     if at >= limit {
         return Err(Condition::Addressing);

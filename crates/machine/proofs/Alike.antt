@@ -156,7 +156,7 @@ module _ (r : Registers) (m_real n_real : View) (m_shown n_shown : Shown) (acces
       alike.listed
 
 pub answers_alike : NothingElseMatters
-answers_alike m n access o places alike = (by alike, translation_short m access o places)
+answers_alike m access o places n alike = (by alike, translation_short m access o places)
   where
     by : Alike m n access o places → (translates access o places).gives n ≡ (translates access o places).gives m
     by alike =

@@ -67,8 +67,10 @@ space_ordered word access (Some space) a =
 reach_ordered : (r : Registers) (view : View) (access : Access) (real : ℕ) → Ordered (reach_conditions r view access real) real (reached r view access real).result
 reach_ordered r view access real = unless_first Addressing _ (then (unless Key (key_protected r.key access (view.key (block_of real)))) (λ _. given real)) (row Key (key_protected r.key access (view.key (block_of real))) ∷ []) real (unless_first Key (key_protected r.key access (view.key (block_of real))) (given real) [] real refl)
 
-reaching_ordered : (r : Registers) (view : View) (access : Access) (o : Operand) → Ordered (reaching_conditions r view access o) (real_found r view access o) (reach r (access_fresh view.word) (page_fresh view.word) view access o).result
-reaching_ordered r view access o =
+reaching_ordered : (n : Scene) (access : Access) (o : Operand) → Ordered (reaching_conditions n access o) (real_found n access o) (reach n.registers (access_fresh n.real.word) (page_fresh n.real.word) n.real access o).result
+reaching_ordered n access o =
+    let r = n.registers in
+    let view = n.real in
     let word = view.word in
     let a = cut r.size o.address in
     let space = mode_space word r.mode r o.register in
@@ -83,8 +85,11 @@ bare_asks : {Key Answer : Type 0} (shows : Key → Option Answer) (fresh : Key �
 bare_asks shows fresh none = fun_ext (λ k. ap (λ o. asked o (fresh k)) (none k))
 
 -- so a translation over bare sources meets its conditions in order
-pub translation_ordered : (n : Scene) (access : Access) (o : Operand) (places : ℕ) → OrderedOverBare n (translation_conditions n.registers n.real access o places) (real_found n.registers n.real access o) ((translates access o places).gives n).result
+pub translation_ordered : (n : Scene) (access : Access) (o : Operand) (places : ℕ) → OrderedOverBare n (λ m. translation_conditions m access o places) (λ m. real_found m access o) ((translates access o places).gives n).result
 translation_ordered n access o places (none_a, none_p) =
+    let afresh = reach n.registers (access_fresh n.real.word) (page_fresh n.real.word) n.real access o in
+    let real = real_found n access o in
+    let rows = reaching_conditions n access o in
     ap₂ (λ x y. (translation n.registers x y n.real access o places).result) (bare_asks n.shown.access (access_fresh n.real.word) none_a) (bare_asks n.shown.page (page_fresh n.real.word) none_p)
-    ∙ unless_first BadNumber (ltb 15 o.register) (then (unless ShortList (ltb places 12)) (λ _. reach n.registers (access_fresh n.real.word) (page_fresh n.real.word) n.real access o)) (row ShortList (ltb places 12) ∷ reaching_conditions n.registers n.real access o) (real_found n.registers n.real access o)
-    (unless_first ShortList (ltb places 12) (reach n.registers (access_fresh n.real.word) (page_fresh n.real.word) n.real access o) (reaching_conditions n.registers n.real access o) (real_found n.registers n.real access o) (reaching_ordered n.registers n.real access o))
+    ∙ unless_first BadNumber (ltb 15 o.register) (then (unless ShortList (ltb places 12)) (λ _. afresh)) (row ShortList (ltb places 12) ∷ rows) real
+    (unless_first ShortList (ltb places 12) afresh rows real (reaching_ordered n access o))

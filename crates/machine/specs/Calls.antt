@@ -4,6 +4,8 @@ use Rattle.arch.specs.declared.call.Access.{Access}
 use Rattle.arch.specs.declared.call.Access.TheVariants.{Fetch, Store}
 use Rattle.arch.specs.declared.condition.Condition.{Condition}
 use Rattle.arch.specs.declared.condition.Condition.TheVariants.{BadNumber, Unaligned, ShortList, Addressing}
+use Rattle.arch.specs.declared.record.Word.{Word}
+use Rattle.arch.specs.Order.{value}
 use Rattle.arch.specs.Walks.{Traced, then}
 use Rattle.storage.specs.Views.{View}
 use Rattle.lookup.specs.declared.access.AccessKey.{AccessKey}
@@ -11,7 +13,7 @@ use Rattle.lookup.specs.declared.page.PageKey.{PageKey}
 use Rattle.machine.specs.declared.counted.Counted.{Counted}
 use Rattle.machine.specs.declared.sources.Operand.{Operand}
 use Rattle.machine.specs.declared.sources.Sources.{Sources}
-use Rattle.machine.specs.Puts.{put_answer}
+use Rattle.machine.specs.Puts.{put_answer, stored_by}
 use Rattle.machine.specs.Scene.{AccessSource, PageSource, Scene, ask_access, ask_page}
 use Rattle.machine.specs.Translation.{unless, cut, mode_asks, page_asked, space_by_mode, translation}
 use Rattle.machine.specs.Turns.{AsksAccess, AsksPage}
@@ -83,6 +85,18 @@ stores o places = record {
   access_key = (accesses Store o places).access_key;
   page_key = (accesses Store o places).page_key;
 }
+
+-- where the translation gives an address, the doubleword there is fetched
+abbrev pub FetchesThere : Operand → ℕ → Scene → Result ℕ Condition → Type 0
+FetchesThere o places n r = (real : ℕ) → ((accesses Fetch o places).gives n).result ≡ Ok real → r ≡ Ok (value n.real.word real)
+
+-- or stored, and a store is done
+abbrev pub StoresThere : Operand → ℕ → Scene → Result (Unit {0}) Condition → Type 0
+StoresThere o places n r = (real : ℕ) → ((accesses Store o places).gives n).result ≡ Ok real → r ≡ Ok tt
+
+-- the doubleword that a store sets, if any
+abbrev pub stored_word : Operand → ℕ → ℕ → Scene → Option Word
+stored_word o places x n = stored_by ((accesses Store o places).gives n).result x
 
 abbrev pub traced : {X : Type 0} → Result X Condition → List ℕ → Traced X
 traced r trace = record { result = r; trace = trace }

@@ -1,7 +1,6 @@
 -- All that a call does, by what it sees.
 use Rattle.std.specs.Prelude.{◌≡◌, ℕ, cond, length, Some, None, Ok, Err, Option}
 use Rattle.std.specs.Option.{unwrap_or}
-use Rattle.arch.specs.declared.call.Access.TheVariants.{Store}
 use Rattle.arch.specs.declared.call.Call.{Call}
 use Rattle.arch.specs.declared.call.Call.TheVariants as call
 use Rattle.arch.specs.declared.call.SourceName.{SourceName}
@@ -25,8 +24,8 @@ use Rattle.machine.specs.declared.request.Request.{Request}
 use Rattle.machine.specs.declared.request.Request.TheVariants as request
 use Rattle.machine.specs.declared.sources.Operand.{Operand}
 use Rattle.machine.specs.declared.sources.Sources.{Sources}
-use Rattle.machine.specs.Calls.{Translating, translates, accesses, fetches, stores}
-use Rattle.machine.specs.Puts.{put_answer, put_of, stored_by, after_puts_under}
+use Rattle.machine.specs.Calls.{Translating, translates, fetches, stores, stored_word}
+use Rattle.machine.specs.Puts.{put_answer, put_of, after_puts_under}
 use Rattle.machine.specs.Registers.{Registers, load_result, with_access, with_control, with_mode}
 use Rattle.machine.specs.Scene.{AccessSource, PageSource, Scene, scene}
 use Rattle.machine.specs.Turns.{Asked, Emptied}
@@ -95,7 +94,7 @@ effect_of (request.Line c) n = line_effect c n
 effect_of (request.Fetch register address) n = translating (fetches (record { register = register; address = address }) places) outcome.Fetched n
 effect_of (request.Store register address x) n =
     record (translating (stores (record { register = register; address = address }) places) outcome.Stored n)
-    { puts = stored_by ((accesses Store (record { register = register; address = address }) places).gives n).result x }
+    { puts = stored_word (record { register = register; address = address }) places x n }
 
 -- what a turn does to a source
 abbrev pub Turns : {Key Answer S : Type 0} → (Key → Type 0) → (Key → Traced Answer) → (S → Key → Answer → Type 0) → (S → (Key → Traced Answer) → Key → S → Type 0) → (S → S → Type 0) → Turn Key → S → S → Type 0

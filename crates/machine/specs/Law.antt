@@ -178,9 +178,12 @@ AnswersAlike m n access o places =
     ((translates access o places).gives n ≡ (translates access o places).gives m)
     × (length ((translates access o places).gives m).trace ≤ 12)
 
--- of any two machines, for any translation
+-- a translation with all that are alike, and any translation of any machine
+abbrev pub AnswersAsItsLike : Scene → Access → Operand → ℕ → Type 0
+AnswersAsItsLike m access o places = (n : Scene) → Alike m n access o places → AnswersAlike m n access o places
+
 abbrev pub NothingElseMatters : Type 0
-NothingElseMatters = (m n : Scene) (access : Access) (o : Operand) (places : ℕ) → Alike m n access o places → AnswersAlike m n access o places
+NothingElseMatters = (m : Scene) (access : Access) (o : Operand) (places : ℕ) → AnswersAsItsLike m access o places
 
 -- CALL BY CALL. Every pair held was fresh at one of the moments since the latest purge.
 abbrev pub Sound : {Key Answer : Type 0} → (Key → Type 0) → ((ℕ → Option ℕ) → Key → Traced Answer) → List (ℕ → Option ℕ) → (Key → Answer → Type 0) → Type 0

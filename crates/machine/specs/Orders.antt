@@ -1,6 +1,6 @@
 -- The conditions of a whole translation, walked afresh, as one table in the order in which they are tested.
 use Rattle.std.specs.Prelude.{ℕ, ◌*◌, ◌/◌, ◌%◌, false, cond, not, ◌&&◌, List, [], ◌∷◌, ◌++◌, is_some, Some, None, Option, Result, ◌==◌, nat_lt, slice_index}
-use Rattle.arch.specs.Order.{Row, row, Ordered}
+use Rattle.arch.specs.Order.{Row, row, value, Ordered}
 use Rattle.arch.specs.declared.call.Access.{Access}
 use Rattle.arch.specs.declared.condition.Condition.{Condition}
 use Rattle.arch.specs.declared.condition.Condition.TheVariants.{BadNumber, Unaligned, ShortList, Addressing, LowAddress, AccessList, Page, Key}
@@ -58,21 +58,21 @@ reach_conditions r view access real =
     ∷ row Key (key_protected r.key access (view.key (block_of real)))
     ∷ []
 
-module _ (r : Registers) (view : View) (access : Access) (o : Operand) where
+module _ (n : Scene) (access : Access) (o : Operand) where
   abbrev pub space_found : Option AccessAnswer
-  space_found = mode_space view.word r.mode r o.register
+  space_found = mode_space n.real.word n.registers.mode n.registers o.register
 
   -- the real address
   abbrev pub real_found : ℕ
-  real_found = space_real view.word space_found (cut r.size o.address)
+  real_found = space_real n.real.word space_found (cut n.registers.size o.address)
 
   -- from the access-register lookup to the doubleword reached
   abbrev pub reaching_conditions : List Row
   reaching_conditions =
-      lookup_conditions view.word (mode_asks r.mode r o.register)
-      ++ (row LowAddress (low_protected r access (cut r.size o.address))
-      ∷ space_conditions view.word access space_found (cut r.size o.address)
-      ++ reach_conditions r view access real_found)
+      lookup_conditions n.real.word (mode_asks n.registers.mode n.registers o.register)
+      ++ (row LowAddress (low_protected n.registers access (cut n.registers.size o.address))
+      ∷ space_conditions n.real.word access space_found (cut n.registers.size o.address)
+      ++ reach_conditions n.registers n.real access real_found)
 
   -- the whole table of a translation
   abbrev pub translation_conditions : ℕ → List Row
@@ -82,7 +82,11 @@ module _ (r : Registers) (view : View) (access : Access) (o : Operand) where
   abbrev pub fetch_store_conditions : ℕ → List Row
   fetch_store_conditions places = row BadNumber (nat_lt 15 o.register) ∷ row Unaligned (not (o.address % 8 == 0)) ∷ row ShortList (nat_lt places 12) ∷ reaching_conditions
 
+-- the doubleword at the real address
+abbrev pub value_found : Scene → Access → Operand → ℕ
+value_found n access o = value n.real.word (real_found n access o)
+
 -- over bare sources a call comes to this answer exactly where no condition of its table applies, else to the first
 -- that does
-abbrev pub OrderedOverBare : {X : Type 0} → Scene → List Row → X → Result X Condition → Type 0
-OrderedOverBare n rows x r = IsBare n.shown → Ordered rows x r
+abbrev pub OrderedOverBare : {X : Type 0} → Scene → (Scene → List Row) → (Scene → X) → Result X Condition → Type 0
+OrderedOverBare n conditions answer r = IsBare n.shown → Ordered (conditions n) (answer n) r

@@ -1,11 +1,10 @@
 // Fetch and store: a translation, and then the doubleword.
-ghost use Rattle.std.specs.Prelude.{◌≡◌, ℕ, length, Ok};
-ghost use Rattle.arch.specs.Order.{value as value_at};
+ghost use Rattle.std.specs.Prelude.{◌≡◌, length};
 ghost use Rattle.arch.specs.declared.call.Access.TheVariants.{Fetch, Store};
-ghost use Rattle.machine.specs.Calls.{Makes, accesses, fetches, stores, value_there, refuses_access};
+ghost use Rattle.machine.specs.Calls.{FetchesThere, Makes, StoresThere, accesses, fetches, refuses_access, stored_word, stores, value_there};
 ghost use Rattle.machine.specs.Law.{AnswersFresh};
-ghost use Rattle.machine.specs.Orders.{OrderedOverBare, real_found, fetch_store_conditions};
-ghost use Rattle.machine.specs.Puts.{LayerAfter, after_puts_under, stored_by};
+ghost use Rattle.machine.specs.Orders.{OrderedOverBare, fetch_store_conditions, real_found, value_found};
+ghost use Rattle.machine.specs.Puts.{LayerAfter, after_puts_under};
 ghost use Rattle.machine.specs.Scene.{held, scene};
 ghost use Rattle.storage.specs.Prefixes.{prefixed};
 
@@ -47,11 +46,10 @@ impl Machine {
         ensures storage { storage.new.beneath ≡ storage.old.beneath }
         ensures layer { LayerAfter (refuses_access operand (length list.old)) self.old.prefix
             storage.old storage.new }
-        ensures order { OrderedOverBare (scene S.Storage A.Source P.Source self.old storage.old sources.old)
-            (fetch_store_conditions self.old (prefixed self.old.prefix (S.view storage.old.beneath)) access operand
-            (length list.old))
-            (real_found self.old (prefixed self.old.prefix (S.view storage.old.beneath)) access operand)
-            result.result }
+        ensures order { OrderedOverBare
+            (scene S.Storage A.Source P.Source self.old storage.old sources.old)
+            (λ n. fetch_store_conditions n access operand (length list.old))
+            (λ n. real_found n access operand) result.result }
         ensures law { AnswersFresh (accesses access operand (length list.old))
             (scene S.Storage A.Source P.Source self.old storage.old sources.old) result.result
             (held A.Source P.Source sources.old) (held A.Source P.Source sources.new) }
@@ -80,20 +78,16 @@ impl Machine {
         ensures makes { Makes A.Source P.Source (fetches operand (length list.old))
             (scene S.Storage A.Source P.Source self.old storage.old sources.old)
             sources.old list.old result sources.new list.new }
-        ensures value { (real : ℕ)
-            → ((accesses Fetch operand (length list.old)).gives
-            (scene S.Storage A.Source P.Source self.old storage.old sources.old)).result ≡ Ok real
-            → result.result ≡ Ok (value_at (prefixed self.old.prefix (S.view storage.old.beneath)).word real) }
+        ensures value { FetchesThere operand (length list.old)
+            (scene S.Storage A.Source P.Source self.old storage.old sources.old) result.result }
         ensures registers { self.new ≡ self.old }
         ensures storage { storage.new.beneath ≡ storage.old.beneath }
         ensures layer { LayerAfter (refuses_access operand (length list.old)) self.old.prefix
             storage.old storage.new }
-        ensures order { OrderedOverBare (scene S.Storage A.Source P.Source self.old storage.old sources.old)
-            (fetch_store_conditions self.old (prefixed self.old.prefix (S.view storage.old.beneath)) Fetch operand
-            (length list.old))
-            (value_at (prefixed self.old.prefix (S.view storage.old.beneath)).word
-            (real_found self.old (prefixed self.old.prefix (S.view storage.old.beneath)) Fetch operand))
-            result.result }
+        ensures order { OrderedOverBare
+            (scene S.Storage A.Source P.Source self.old storage.old sources.old)
+            (λ n. fetch_store_conditions n Fetch operand (length list.old))
+            (λ n. value_found n Fetch operand) result.result }
         ensures law { AnswersFresh (fetches operand (length list.old))
             (scene S.Storage A.Source P.Source self.old storage.old sources.old) result.result
             (held A.Source P.Source sources.old) (held A.Source P.Source sources.new) }
@@ -122,21 +116,19 @@ impl Machine {
         ensures makes { Makes A.Source P.Source (stores operand (length list.old))
             (scene S.Storage A.Source P.Source self.old storage.old sources.old)
             sources.old list.old result sources.new list.new }
-        ensures done { (real : ℕ)
-            → ((accesses Store operand (length list.old)).gives
-            (scene S.Storage A.Source P.Source self.old storage.old sources.old)).result ≡ Ok real
-            → result.result ≡ Ok tt }
+        ensures done { StoresThere operand (length list.old)
+            (scene S.Storage A.Source P.Source self.old storage.old sources.old) result.result }
         ensures registers { self.new ≡ self.old }
         ensures storage { S.view storage.new.beneath ≡ after_puts_under self.old.prefix
-            (stored_by ((accesses Store operand (length list.old)).gives
-            (scene S.Storage A.Source P.Source self.old storage.old sources.old)).result value)
+            (stored_word operand (length list.old) value
+                (scene S.Storage A.Source P.Source self.old storage.old sources.old))
             (S.view storage.old.beneath) }
         ensures layer { LayerAfter (refuses_access operand (length list.old)) self.old.prefix
             storage.old storage.new }
-        ensures order { OrderedOverBare (scene S.Storage A.Source P.Source self.old storage.old sources.old)
-            (fetch_store_conditions self.old (prefixed self.old.prefix (S.view storage.old.beneath)) Store operand
-            (length list.old))
-            tt result.result }
+        ensures order { OrderedOverBare
+            (scene S.Storage A.Source P.Source self.old storage.old sources.old)
+            (λ n. fetch_store_conditions n Store operand (length list.old))
+            (λ _. tt) result.result }
         ensures law { AnswersFresh (stores operand (length list.old))
             (scene S.Storage A.Source P.Source self.old storage.old sources.old) result.result
             (held A.Source P.Source sources.old) (held A.Source P.Source sources.new) }

@@ -1,11 +1,10 @@
 // Translation, as a call.
 ghost use Rattle.std.specs.Prelude.{◌≡◌, length};
 ghost use Rattle.machine.specs.Calls.{Makes, translates, refuses_translation};
-ghost use Rattle.machine.specs.Law.{Alike, AnswersAlike, AnswersFresh};
+ghost use Rattle.machine.specs.Law.{AnswersAsItsLike, AnswersFresh};
 ghost use Rattle.machine.specs.Orders.{OrderedOverBare, real_found, translation_conditions};
 ghost use Rattle.machine.specs.Puts.{LayerAfter};
-ghost use Rattle.machine.specs.Scene.{Scene, held, scene};
-ghost use Rattle.storage.specs.Prefixes.{prefixed};
+ghost use Rattle.machine.specs.Scene.{held, scene};
 
 use crate::counted::Counted;
 use crate::registers::Machine;
@@ -37,18 +36,15 @@ impl Machine {
         ensures storage { storage.new.beneath ≡ storage.old.beneath }
         ensures layer { LayerAfter (refuses_translation operand (length list.old)) self.old.prefix
             storage.old storage.new }
-        ensures order { OrderedOverBare (scene S.Storage A.Source P.Source self.old storage.old sources.old)
-            (translation_conditions self.old (prefixed self.old.prefix (S.view storage.old.beneath)) access operand
-            (length list.old))
-            (real_found self.old (prefixed self.old.prefix (S.view storage.old.beneath)) access operand)
-            result.result }
+        ensures order { OrderedOverBare
+            (scene S.Storage A.Source P.Source self.old storage.old sources.old)
+            (λ n. translation_conditions n access operand (length list.old))
+            (λ n. real_found n access operand) result.result }
         ensures law { AnswersFresh (translates access operand (length list.old))
             (scene S.Storage A.Source P.Source self.old storage.old sources.old) result.result
             (held A.Source P.Source sources.old) (held A.Source P.Source sources.new) }
-        ensures alike { (n : Scene)
-            → Alike (scene S.Storage A.Source P.Source self.old storage.old sources.old) n
-            access operand (length list.old)
-            → AnswersAlike (scene S.Storage A.Source P.Source self.old storage.old sources.old) n
+        ensures alike { AnswersAsItsLike
+            (scene S.Storage A.Source P.Source self.old storage.old sources.old)
             access operand (length list.old) }
     {
         if operand.register > 15 {

@@ -30,7 +30,7 @@ returns-in-Ok-clause-order g c bare =
     let same : prefixed c.accessed-reached.new.self.prefix (g.S.Storage.view c.accessed-reached.new.storage.beneath) ≡ view = ap₂ (λ r b. prefixed r.prefix (g.S.Storage.view b)) reached.registers reached.storage in
     let gave = c.put-result.ensures.result ∙ ap (λ v. put_answer v c.in-Ok.real) same in
     gave ∙ stored_there n Store a.operand (length a.list.now) c.in-Ok.real came
-    ∙ ordered_use (fetch_store_conditions a.self.now view Store a.operand (length a.list.now)) (real_found a.self.now view Store a.operand) c.in-Ok.real (λ _. tt) (sym c.in-Ok.is ∙ reached.order bare)
+    ∙ ordered_use (fetch_store_conditions n Store a.operand (length a.list.now)) (real_found n Store a.operand) c.in-Ok.real (λ _. tt) (sym c.in-Ok.is ∙ reached.order bare)
 
 pub returns-in-Ok-clause-law : goal.returns-in-Ok-clause-law
 returns-in-Ok-clause-law g c =

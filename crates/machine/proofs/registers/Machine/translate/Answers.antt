@@ -24,7 +24,7 @@ returns g c =
       order = λ bare. makes.reports.result ∙ translation_ordered (scene g.S.Storage g.A.Source g.P.Source a.self.now a.storage.now a.sources.now) a.access a.operand places bare;
       law = answers_fresh g.A.Source g.P.Source (λ s k a e. g.met.A.Source.shown_is_held s k a e) (λ s k a e. g.met.P.Source.shown_is_held s k a e)
           (translates a.access a.operand places) (translates_same a.access a.operand places) a.self.now (prefixed a.self.now.prefix (g.S.Storage.view a.storage.now.beneath)) a.sources.now _ a.list.now _ _ makes;
-      alike = λ n. answers_alike _ n a.access a.operand places;
+      alike = λ n. answers_alike _ a.access a.operand places n;
     }
 
 pub returns-then-operand-gt15-clause-law : goal.returns-then-operand-gt15-clause-law
@@ -34,7 +34,7 @@ returns-then-operand-gt15-clause-law g c =
     (translates a.access a.operand (length a.list.now)) (translates_same a.access a.operand (length a.list.now)) a.self.now (prefixed a.self.now.prefix (g.S.Storage.view a.storage.now.beneath)) a.sources.now a.sources.now a.list.now a.list.now c.refused.result (search rules)
 
 pub returns-then-operand-gt15-clause-alike : goal.returns-then-operand-gt15-clause-alike
-returns-then-operand-gt15-clause-alike g c n = answers_alike _ n c.args.access c.args.operand (length c.args.list.now)
+returns-then-operand-gt15-clause-alike g c n = answers_alike _ c.args.access c.args.operand (length c.args.list.now) n
 
 pub returns-then-list-lt12-clause-law : goal.returns-then-list-lt12-clause-law
 returns-then-list-lt12-clause-law g c =
