@@ -18,9 +18,9 @@ pub const KEYS: usize = 256;
 
 pub const CALLS: usize = 16384;
 
-// The bytes that the reader gives, in order, until it ends or has given `limit` of them. An interrupted read is tried
-// again; any other error, of the reader or of memory, is passed on. (The library has no word for when a reader errs,
-// so no clause says that it did: tests do.)
+// The bytes that the reader gives, in order, until it ends or has given `limit` of them. An
+// interrupted read is tried again; any other error, of the reader or of memory, is passed on. (The
+// library has no word for when a reader errs, so no clause says that it did: tests do.)
 pub fn text<R: Read + Drop>(heap: Global, reader: R, limit: usize) -> io::Result<Vec<u8>>
     ensures limit { IfOk result (λ text. vec_len text ≤ limit) }
     ensures bytes { IfOk result (λ text.
@@ -29,7 +29,8 @@ pub fn text<R: Read + Drop>(heap: Global, reader: R, limit: usize) -> io::Result
 {
     let mut text = Vec::new(heap);
     reader.take(limit as u64).read_to_end(&mut text)?;
-    // Cuts nothing off. But the library says how much a limited reader gives only where its bytes are known.
+    // Cuts nothing off. But the library says how much a limited reader gives only where its bytes
+    // are known.
     text.truncate(limit);
     Ok(text)
 }

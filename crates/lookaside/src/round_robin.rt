@@ -37,7 +37,8 @@ impl Table for RoundRobinTable {
 
     ghost has_pair = { λ t k a. HasPair t.rows k a };
 
-    ghost after_note = { λ t k a u. (u.rows ≡ slice_set t.rows t.next (full_row k a)) × (u.next ≡ (t.next + 1) % round_robin_rows) };
+    ghost after_note = { λ t k a u. (u.rows ≡ slice_set t.rows t.next (full_row k a))
+        × (u.next ≡ (t.next + 1) % round_robin_rows) };
 
     ghost after_clear = { λ t. (t.rows ≡ replicate round_robin_rows empty_row) × (t.next ≡ 0) };
 

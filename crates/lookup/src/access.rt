@@ -12,8 +12,8 @@ use storage::storage::Storage;
 // Addresses of access-register tables stay below 2^31.
 const LIMIT: u128 = 1 << 31;
 
-// What an access-register lookup asks for: the access-list-entry token, the extended authorization index,
-// and the real address of the doubleword whose left half is the access-list designation.
+// What an access-register lookup asks for: the access-list-entry token, the extended authorization
+// index, and the real address of the doubleword whose left half is the access-list designation.
 #[derive(Clone, Copy, PartialEq, Eq, Debug)]
 pub struct AccessKey {
     pub alet: u32,

@@ -1,4 +1,5 @@
-// A kind of lookup: what it asks for and what it finds, how both are spelt in two words, and its walk.
+// A kind of lookup: what it asks for and what it finds, how both are spelt in two words, and its
+// walk.
 ghost use Rattle.std.specs.Prelude.{◌≡◌, ℕ, ◌+◌, ◌≤◌, List, length, Option};
 ghost use Rattle.arch.specs.Order.{Row, Ordered};
 ghost use Rattle.arch.specs.Walks.{Traced, Gives, SeesOnlyItsTrace};
@@ -25,7 +26,8 @@ pub trait Kind {
     // It reads at most so many doublewords.
     ghost most_reads: { ℕ };
 
-    // A key whose numbers have the widths that they are spelt with. Every key that code can hold is one.
+    // A key whose numbers have the widths that they are spelt with. Every key that code can hold is
+    // one.
     ghost fits: { Self.Key → Type 0 };
 
     ghost key_words: { Self.Key → Words };
@@ -34,8 +36,8 @@ pub trait Kind {
 
     ghost answer_of: { Words → Self.Answer };
 
-    // Walks the tables, noting each address asked for at the end of the trace. It comes to what it finds exactly
-    // where no condition of its table applies, else to the first that does.
+    // Walks the tables, noting each address asked for at the end of the trace. It comes to what it
+    // finds exactly where no condition of its table applies, else to the first that does.
     fn walk<S: Storage>(
         storage: &S,
         key: Self::Key,
@@ -44,7 +46,8 @@ pub trait Kind {
         requires { length trace.old.items + most_reads ≤ 12 }
         ensures gives { Gives most_reads (fresh (S.view storage.now).word key)
             trace.old.items trace.new.items result }
-        ensures order { Ordered (conditions (S.view storage.now).word key) (finds (S.view storage.now).word key) result };
+        ensures order { Ordered (conditions (S.view storage.now).word key)
+            (finds (S.view storage.now).word key) result };
 
     fn spell(key: Self::Key) -> Words
         ensures words { result ≡ key_words key }
@@ -60,7 +63,8 @@ pub trait Kind {
     ghost sees_only_its_trace: { (key : Self.Key) → SeesOnlyItsTrace (λ word. fresh word key) };
 
     // Keys have equal words exactly when they are equal.
-    ghost distinct: { (k j : Self.Key) → fits k → fits j → (key_words k ≡ key_words j → k ≡ j) × (k ≡ j → key_words k ≡ key_words j) };
+    ghost distinct: { (k j : Self.Key) → fits k → fits j
+        → (key_words k ≡ key_words j → k ≡ j) × (k ≡ j → key_words k ≡ key_words j) };
 
     // The words of an answer give it back.
     ghost answer_back: { (a : Self.Answer) → answer_of (answer_words a) ≡ a };

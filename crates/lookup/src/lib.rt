@@ -1,5 +1,6 @@
-// The two lookups: an access register's entry to its address space, and a page number to its frame. What
-// a kind of lookup is, what a source of answers is, and the source that always walks the tables.
+// The two lookups: an access register's entry to its address space, and a page number to its frame.
+// What a kind of lookup is, what a source of answers is, and the source that always walks the
+// tables.
 #![tactic(auto)]
 
 pub mod access;

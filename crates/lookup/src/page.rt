@@ -12,8 +12,8 @@ use storage::storage::Storage;
 // Addresses of translation tables stay below 2^64.
 const LIMIT: u128 = 1 << 64;
 
-// What a page lookup asks for: the address-space-control element and the page number, bits 0-51 of the
-// address.
+// What a page lookup asks for: the address-space-control element and the page number, bits 0-51 of
+// the address.
 #[derive(Clone, Copy, PartialEq, Eq, Debug)]
 pub struct PageKey {
     pub asce: u64,
@@ -185,7 +185,8 @@ fn descend<S: Storage>(
 ) -> Result<PageAnswer, Condition>
     requires level { level < 4 }
     requires room { length trace.old.items + (level + 2) ≤ 12 }
-    ensures { Walks (level + 2) page_limit (S.view storage.now).word (descending level table private page)
+    ensures { Walks (level + 2) page_limit (S.view storage.now).word
+        (descending level table private page)
         trace.old.items trace.new.items result }
 {
     if level == 0 {

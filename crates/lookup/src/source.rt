@@ -15,14 +15,15 @@ pub trait Source<K: Kind> {
     // The pairs of key and answer that it keeps in any of its layers.
     ghost holds: { Self → K.Key → K.Answer → Type 0 };
 
-    // What it may be after an ask for a key, by what each key's walk comes to, and after a purge. A maker who
-    // leaves the displacement of answers open says as little here as may be told.
+    // What it may be after an ask for a key, by what each key's walk comes to, and after a purge. A
+    // maker who leaves the displacement of answers open says as little here as may be told.
     ghost after_ask: { Self → (K.Key → Traced K.Answer) → K.Key → Self → Type 0 };
 
     ghost after_purge: { Self → Self → Type 0 };
 
-    // Gives the shown answer and lists nothing; with none shown it gives the fresh result and lists each
-    // address asked for. What it holds afterwards it held before, or is its key's fresh answer.
+    // Gives the shown answer and lists nothing; with none shown it gives the fresh result and lists
+    // each address asked for. What it holds afterwards it held before, or is its key's fresh
+    // answer.
     fn ask<S: Storage>(
         &mut self,
         storage: &S,
@@ -30,9 +31,11 @@ pub trait Source<K: Kind> {
         trace: &mut Trace,
     ) -> Result<K::Answer, Condition>
         requires { length trace.old.items + K.most_reads ≤ 12 }
-        ensures gives { Gives K.most_reads (asked (shows self.old key) (K.fresh (S.view storage.now).word key))
+        ensures gives { Gives K.most_reads
+            (asked (shows self.old key) (K.fresh (S.view storage.now).word key))
             trace.old.items trace.new.items result }
-        ensures keeps { Kept K.fits (K.fresh (S.view storage.now).word) (holds self.old) (holds self.new) }
+        ensures keeps { Kept K.fits (K.fresh (S.view storage.now).word) (holds self.old)
+            (holds self.new) }
         ensures after { after_ask self.old (K.fresh (S.view storage.now).word) key self.new };
 
     // Forgets every pair.

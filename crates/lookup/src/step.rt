@@ -7,8 +7,8 @@ use crate::trace::Trace;
 use arch::condition::Condition;
 use storage::storage::Storage;
 
-// Reads one doubleword of a table. An address that reaches the limit is refused and not listed; any other
-// is listed, also where its doubleword is absent.
+// Reads one doubleword of a table. An address that reaches the limit is refused and not listed; any
+// other is listed, also where its doubleword is absent.
 pub(crate) fn read<S: Storage>(
     storage: &S,
     at: u128,

@@ -21,7 +21,8 @@ use storage::storage::Storage;
 impl Machine {
     // The doubleword at a real address.
     fn fetch_real<S: Storage>(&self, storage: &mut Prefixed<S>, real: u64) -> Result<u64, Condition>
-        ensures result { result ≡ value_there ((prefixed self.now.prefix (S.view storage.old.beneath)).word real) }
+        ensures result { result ≡ value_there
+            ((prefixed self.now.prefix (S.view storage.old.beneath)).word real) }
         ensures storage { storage.new.beneath ≡ storage.old.beneath }
         ensures layer { storage.new.prefix ≡ self.now.prefix }
     {
@@ -29,8 +30,8 @@ impl Machine {
         storage.fetch(real).ok_or(Condition::Addressing)
     }
 
-    // The translation that an access makes. Refused before it, in this order: a number of no access register, an
-    // address that is no multiple of 8, too few places.
+    // The translation that an access makes. Refused before it, in this order: a number of no access
+    // register, an address that is no multiple of 8, too few places.
     fn accessed<S: Storage, A: Source<AccessRegister>, P: Source<Paging>>(
         &mut self,
         storage: &mut Prefixed<S>,
@@ -66,8 +67,9 @@ impl Machine {
         self.translate(storage, sources, access, operand, list)
     }
 
-    // Fetches the doubleword at an address, by an access register. With sources that show nothing it comes to the
-    // value at the real address exactly where no condition of its table applies, and else to the first that does.
+    // Fetches the doubleword at an address, by an access register. With sources that show nothing
+    // it comes to the value at the real address exactly where no condition of its table applies,
+    // and else to the first that does.
     pub fn fetch<S: Storage, A: Source<AccessRegister>, P: Source<Paging>>(
         &mut self,
         storage: &mut Prefixed<S>,
@@ -103,8 +105,8 @@ impl Machine {
         }
     }
 
-    // Stores the doubleword at an address, by an access register. With sources that show nothing it is done exactly
-    // where no condition of its table applies, and else the first that does is met.
+    // Stores the doubleword at an address, by an access register. With sources that show nothing it
+    // is done exactly where no condition of its table applies, and else the first that does is met.
     pub fn store<S: Storage, A: Source<AccessRegister>, P: Source<Paging>>(
         &mut self,
         storage: &mut Prefixed<S>,
@@ -121,7 +123,7 @@ impl Machine {
         ensures registers { self.new ≡ self.old }
         ensures storage { S.view storage.new.beneath ≡ after_puts_under self.old.prefix
             (stored_word operand (length list.old) value
-                (scene S.Storage A.Source P.Source self.old storage.old sources.old))
+            (scene S.Storage A.Source P.Source self.old storage.old sources.old))
             (S.view storage.old.beneath) }
         ensures layer { LayerAfter (refuses_access operand (length list.old)) self.old.prefix
             storage.old storage.new }

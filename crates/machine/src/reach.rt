@@ -27,7 +27,8 @@ fn stores(access: Access) -> bool
     matches!(access, Access::Store)
 }
 
-// The access key is neither zero nor the block's access control, for a store or with the fetch bit one.
+// The access key is neither zero nor the block's access control, for a store or with the fetch bit
+// one.
 fn key_protected(key: u8, access: Access, block: Option<u8>) -> bool
     ensures { result ≡ key_protected key access block }
 {
@@ -62,9 +63,11 @@ fn by_pages<S: Storage, P: Source<Paging>>(
     trace: &mut Trace,
 ) -> Result<u64, Condition>
     requires { length trace.old.items + 5 ≤ 12 }
-    ensures gives { Gives 5 (by_page (page_asks (P.shows source.old) (S.view storage.now).word) access space address)
+    ensures gives { Gives 5
+        (by_page (page_asks (P.shows source.old) (S.view storage.now).word) access space address)
         trace.old.items trace.new.items result }
-    ensures asks { AsksPage P.Source (S.view storage.now) (Some (page_key space.asce address)) source.old source.new }
+    ensures asks { AsksPage P.Source (S.view storage.now)
+        (Some (page_key space.asce address)) source.old source.new }
 {
     let key = PageKey {
         asce: space.asce,
@@ -84,9 +87,11 @@ fn real_of<S: Storage, P: Source<Paging>>(
     trace: &mut Trace,
 ) -> Result<u64, Condition>
     requires { length trace.old.items + 5 ≤ 12 }
-    ensures gives { Gives 5 (real_of (page_asks (P.shows source.old) (S.view storage.now).word) access space address)
+    ensures gives { Gives 5
+        (real_of (page_asks (P.shows source.old) (S.view storage.now).word) access space address)
         trace.old.items trace.new.items result }
-    ensures asks { AsksPage P.Source (S.view storage.now) (space_asks space address) source.old source.new }
+    ensures asks { AsksPage P.Source (S.view storage.now)
+        (space_asks space address) source.old source.new }
 {
     match space {
         None => Ok(address),
@@ -143,10 +148,12 @@ impl Machine {
             (ask_page (seen self.now (S.view storage.now) (shown A.Source P.Source sources.old)))
             (S.view storage.now) access operand) trace.old.items trace.new.items result }
         ensures access { AsksAccess A.Source (S.view storage.now)
-            (access_key_asked (seen self.now (S.view storage.now) (shown A.Source P.Source sources.old)) operand)
+            (access_key_asked (seen self.now (S.view storage.now)
+            (shown A.Source P.Source sources.old)) operand)
             sources.old.access sources.new.access }
         ensures page { AsksPage P.Source (S.view storage.now)
-            (page_key_asked (seen self.now (S.view storage.now) (shown A.Source P.Source sources.old)) access operand)
+            (page_key_asked (seen self.now (S.view storage.now)
+            (shown A.Source P.Source sources.old)) access operand)
             sources.old.page sources.new.page }
     {
         let register = operand.register as usize;

@@ -5,8 +5,8 @@ use crate::mode::{AddressSize, Mode};
 use std::marker::Model;
 use storage::prefix::Prefix;
 
-// A machine is its registers. The key is 0 to f; of the sixteen control registers only 0, 1, 2, 5, 7, 8 and 13,
-// which translation looks at, are ever loaded.
+// A machine is its registers. The key is 0 to f; of the sixteen control registers only 0, 1, 2, 5,
+// 7, 8 and 13, which translation looks at, are ever loaded.
 #[derive(Drop)]
 pub struct Machine {
     pub(crate) mode: Mode,
@@ -22,7 +22,14 @@ impl Model for Machine {
 
     ghost Value = { Registers };
 
-    ghost view = { λ m. record { mode = m.mode; size = m.size; key = m.key; prefix = m.prefix; control = m.control; access = m.access } };
+    ghost view = { λ m. record {
+      mode = m.mode;
+      size = m.size;
+      key = m.key;
+      prefix = m.prefix;
+      control = m.control;
+      access = m.access;
+    } };
 
     ghost invariant = { λ m. IsInRange m.key m.control m.access };
 }

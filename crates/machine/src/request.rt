@@ -3,8 +3,8 @@ use crate::counted::Counted;
 use arch::call::Call;
 use arch::condition::Condition;
 
-// A call: one that a line of a run text makes, or an access to the doubleword at an address, by an access
-// register.
+// A call: one that a line of a run text makes, or an access to the doubleword at an address, by an
+// access register.
 #[derive(Clone, Copy)]
 pub enum Request {
     Line(Call),

@@ -5,8 +5,8 @@ use arch::call::SourceName;
 use lookup::kinds::{AccessRegister, Paging};
 use lookup::source::Source;
 
-// What a translation is of: an address, by an access register. Both stand as they were written: what they may be is
-// told by the call.
+// What a translation is of: an address, by an access register. Both stand as they were written:
+// what they may be is told by the call.
 #[derive(Clone, Copy, PartialEq, Eq, Debug)]
 pub struct Operand {
     pub register: u64,

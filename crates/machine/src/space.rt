@@ -51,9 +51,12 @@ impl Machine {
         trace: &mut Trace,
     ) -> Result<Option<AccessAnswer>, Condition>
         requires { length trace.old.items + 7 ≤ 12 }
-        ensures gives { Gives 7 (looked_up (access_asks (A.shows source.old) (S.view storage.now).word) (key_of self.now alet))
+        ensures gives { Gives 7
+            (looked_up (access_asks (A.shows source.old) (S.view storage.now).word)
+            (key_of self.now alet))
             trace.old.items trace.new.items result }
-        ensures asks { AsksAccess A.Source (S.view storage.now) (Some (key_of self.now alet)) source.old source.new }
+        ensures asks { AsksAccess A.Source (S.view storage.now)
+            (Some (key_of self.now alet)) source.old source.new }
     {
         let found = source.ask(storage, self.access_key(alet), trace)?;
         Ok(Some(found))
@@ -68,9 +71,12 @@ impl Machine {
         trace: &mut Trace,
     ) -> Result<Option<AccessAnswer>, Condition>
         requires { length trace.old.items + 7 ≤ 12 }
-        ensures gives { Gives 7 (space_of_token self.now (access_asks (A.shows source.old) (S.view storage.now).word) alet)
+        ensures gives { Gives 7
+            (space_of_token self.now
+            (access_asks (A.shows source.old) (S.view storage.now).word) alet)
             trace.old.items trace.new.items result }
-        ensures asks { AsksAccess A.Source (S.view storage.now) (token_asks self.now alet) source.old source.new }
+        ensures asks { AsksAccess A.Source (S.view storage.now)
+            (token_asks self.now alet) source.old source.new }
     {
         match alet {
             0 => Ok(held_in(self.control[1])),
@@ -89,9 +95,12 @@ impl Machine {
     ) -> Result<Option<AccessAnswer>, Condition>
         requires register { register < 16 }
         requires room { length trace.old.items + 7 ≤ 12 }
-        ensures gives { Gives 7 (space_of_register self.now (access_asks (A.shows source.old) (S.view storage.now).word) register)
+        ensures gives { Gives 7
+            (space_of_register self.now
+            (access_asks (A.shows source.old) (S.view storage.now).word) register)
             trace.old.items trace.new.items result }
-        ensures asks { AsksAccess A.Source (S.view storage.now) (register_asks self.now register) source.old source.new }
+        ensures asks { AsksAccess A.Source (S.view storage.now)
+            (register_asks self.now register) source.old source.new }
     {
         if register == 0 {
             return Ok(held_in(self.control[1]));
@@ -109,9 +118,12 @@ impl Machine {
     ) -> Result<Option<AccessAnswer>, Condition>
         requires register { register < 16 }
         requires room { length trace.old.items + 7 ≤ 12 }
-        ensures gives { Gives 7 (space_by_mode self.now.mode self.now (access_asks (A.shows source.old) (S.view storage.now).word) register)
+        ensures gives { Gives 7
+            (space_by_mode self.now.mode self.now
+            (access_asks (A.shows source.old) (S.view storage.now).word) register)
             trace.old.items trace.new.items result }
-        ensures asks { AsksAccess A.Source (S.view storage.now) (mode_asks self.now.mode self.now register) source.old source.new }
+        ensures asks { AsksAccess A.Source (S.view storage.now)
+            (mode_asks self.now.mode self.now register) source.old source.new }
     {
         match self.mode {
             Mode::DatOff => Ok(None),

@@ -62,13 +62,16 @@ impl Machine {
         address: u64,
         value: u64,
     ) -> Result<(), Condition>
-        ensures result { result ≡ put_answer (prefixed self.old.prefix (S.view storage.old.beneath)) address }
+        ensures result { result ≡ put_answer
+            (prefixed self.old.prefix (S.view storage.old.beneath)) address }
         ensures registers { self.new ≡ self.old }
         ensures real { prefixed self.old.prefix (S.view storage.new.beneath)
-            ≡ after_puts (put_of address value) (prefixed self.old.prefix (S.view storage.old.beneath)) }
+            ≡ after_puts (put_of address value)
+            (prefixed self.old.prefix (S.view storage.old.beneath)) }
         ensures absolute { S.view storage.new.beneath
             ≡ after_puts_under self.old.prefix (put_of address value) (S.view storage.old.beneath) }
-        ensures layer { LayerAfter (not (address % 8 == 0)) self.old.prefix storage.old storage.new }
+        ensures layer { LayerAfter
+            (not (address % 8 == 0)) self.old.prefix storage.old storage.new }
         ensures refused { OnErr result (storage.new.beneath ≡ storage.old.beneath) }
     {
         if address % 8 != 0 {

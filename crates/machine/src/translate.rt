@@ -18,9 +18,9 @@ use storage::prefix::Prefixed;
 use storage::storage::Storage;
 
 impl Machine {
-    // Translates an address, for a fetch or a store, by an access register. The addresses asked for are
-    // written to the first places of the list. With sources that show nothing it comes to an address exactly
-    // where no condition of its table applies, and else to the first that does.
+    // Translates an address, for a fetch or a store, by an access register. The addresses asked for
+    // are written to the first places of the list. With sources that show nothing it comes to an
+    // address exactly where no condition of its table applies, and else to the first that does.
     pub fn translate<S: Storage, A: Source<AccessRegister>, P: Source<Paging>>(
         &mut self,
         storage: &mut Prefixed<S>,

@@ -77,17 +77,19 @@ fn perform<S: Storage, A: Source<AccessRegister>, P: Source<Paging>>(
     }
 }
 
-// Makes a call. Whatever was called before, from the new call on: where the machine and its sources stand as the
-// law of runs has it, the call keeps the law, and they stand so after it.
+// Makes a call. Whatever was called before, from the new call on: where the machine and its sources
+// stand as the law of runs has it, the call keeps the law, and they stand so after it.
 pub fn answer<S: Storage, A: Source<AccessRegister>, P: Source<Paging>>(
     machine: &mut Machine,
     storage: &mut Prefixed<S>,
     sources: &mut Sources<A, P>,
     request: Request,
 ) -> Outcome
-    ensures performs { Performs S.Storage A.Source P.Source request machine.old storage.old sources.old
+    ensures performs { Performs S.Storage A.Source P.Source request
+        machine.old storage.old sources.old
         result machine.new storage.new sources.new }
-    ensures law { GoesOn A.Source P.Source machine.old (S.view storage.old.beneath) sources.old request
+    ensures law { GoesOn A.Source P.Source
+        machine.old (S.view storage.old.beneath) sources.old request
         result machine.new (S.view storage.new.beneath) sources.new }
 {
     perform(machine, storage, sources, request)

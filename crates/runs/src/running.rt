@@ -11,9 +11,9 @@ use machine::{Machine, Outcome, Request, Sources};
 use storage::prefix::Prefixed;
 use storage::storage::Storage;
 
-// Works through a list of calls from a new machine on, and keeps the record of what came of each, over any
-// storage and any two sources in any state. The law of every run holds of the record. Without a place for each
-// outcome it is refused, and changes nothing.
+// Works through a list of calls from a new machine on, and keeps the record of what came of each,
+// over any storage and any two sources in any state. The law of every run holds of the record.
+// Without a place for each outcome it is refused, and changes nothing.
 pub fn run<S: Storage, A: Source<AccessRegister>, P: Source<Paging>>(
     storage: &mut Prefixed<S>,
     sources: &mut Sources<A, P>,

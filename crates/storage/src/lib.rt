@@ -1,4 +1,5 @@
-// Storages: what one means, the sparse storage over lent records, and the prefix layer over any other.
+// Storages: what one means, the sparse storage over lent records, and the prefix layer over any
+// other.
 #![tactic(auto)]
 
 pub mod prefix;

@@ -1,5 +1,5 @@
-// The prefix layer over any storage: the 8,192 bytes at 0, and their keys, are exchanged with those at the
-// prefix. Addresses above the layer are real, those beneath it absolute.
+// The prefix layer over any storage: the 8,192 bytes at 0, and their keys, are exchanged with those
+// at the prefix. Addresses above the layer are real, those beneath it absolute.
 ghost use Rattle.std.specs.Prelude.{◌≡◌, ◌+◌, ◌/◌, ◌^◌, ◌<◌, true, false, if◌then◌else◌, None, Ok, Err};
 ghost use Rattle.arch.specs.declared.condition.Condition.TheVariants.{BadPrefix};
 ghost use Rattle.storage.specs.Keyed.{prefixed_keyed};
@@ -120,7 +120,8 @@ impl<S> Prefixed<S> {
     // Sets the prefix; refuses what is no multiple of 8,192 below 2^31, and changes nothing then.
     pub fn set_prefix(&mut self, prefix: u64) -> Result<(), Condition>
         ensures result { result ≡ (if lawful_prefix prefix then Ok tt else Err BadPrefix) }
-        ensures prefix { self.new.prefix ≡ (if lawful_prefix prefix then prefix else self.old.prefix) }
+        ensures prefix { self.new.prefix ≡
+            (if lawful_prefix prefix then prefix else self.old.prefix) }
         ensures under { self.new.beneath ≡ self.old.beneath }
         ensures refused { lawful_prefix prefix ≡ false → self.new ≡ self.old }
     {
@@ -144,7 +145,8 @@ impl<S: Storage> Storage for Prefixed<S> {
 
     // The prefix stays, and beneath the doubleword at the absolute address is put.
     fn put(&mut self, address: u64, value: u64) -> Result<(), Condition>
-        ensures result { result ≡ put_result (prefixed self.old.prefix (S.view self.old.beneath)) address }
+        ensures result { result ≡ put_result
+            (prefixed self.old.prefix (S.view self.old.beneath)) address }
         ensures after { prefixed self.new.prefix (S.view self.new.beneath)
             ≡ after_put (prefixed self.old.prefix (S.view self.old.beneath)) address value }
         ensures refused { (prefixed self.old.prefix (S.view self.old.beneath)).word address ≡ None

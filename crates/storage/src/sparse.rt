@@ -43,7 +43,8 @@ fn first_key(keys: &[BlockKey], block: u64) -> Option<u8>
 
 // Sets the value of the first record of `address`, and changes no other record.
 fn set_value(words: &mut [Word], address: u64, value: u64) -> Result<(), Condition>
-    ensures result { result ≡ (if is_some (value_at words.old address) then Ok tt else Err Addressing) }
+    ensures result { result ≡
+        (if is_some (value_at words.old address) then Ok tt else Err Addressing) }
     ensures after { words.new ≡ with_value words.old address value }
 {
     match words.iter().position(|word| word.address == address) {
@@ -71,12 +72,14 @@ impl Storage for Sparse<'_, '_> {
 
     // Only the first record of the address changes, and none where the put is refused.
     fn put(&mut self, address: u64, value: u64) -> Result<(), Condition>
-        ensures result { result ≡ put_result (sparse_view self.old.words.now self.old.keys.now) address }
+        ensures result { result ≡ put_result
+            (sparse_view self.old.words.now self.old.keys.now) address }
         ensures after { sparse_view self.new.words.now self.new.keys.now
             ≡ after_put (sparse_view self.old.words.now self.old.keys.now) address value }
         ensures refused { (sparse_view self.old.words.now self.old.keys.now).word address ≡ None
             → self.new ≡ self.old }
-        ensures words { self.new.words.now ≡ words_after self.old.words.now self.old.keys.now address value }
+        ensures words { self.new.words.now
+            ≡ words_after self.old.words.now self.old.keys.now address value }
         ensures keys { self.new.keys ≡ self.old.keys }
     {
         first_key(self.keys, address / BLOCK_BYTES).ok_or(Condition::Addressing)?;
