@@ -19,8 +19,8 @@ full_entry (Some o) k a e f = let key = same_words o.key k e in let answer : o.a
 full : (r : Row) (k a : Words) → matches k r ≡ true → answer_of r ≡ Some a → r ≡ full_row k a
 full r k a e f = λ i. record { entry = full_entry r.entry k a e f i }
 
-one_found : (r : Row) (k a : Words) → row_answer r k ≡ Some a → r ≡ full_row k a
-one_found r k a e = by (matches k r) refl e
+row_found : (r : Row) (k a : Words) → row_answer r k ≡ Some a → r ≡ full_row k a
+row_found r k a e = by (matches k r) refl e
   where
     by : (t : Bool) → matches k r ≡ t → cond t (answer_of r) None ≡ Some a → r ≡ full_row k a
     by true m f = full r k a m f
@@ -32,7 +32,7 @@ later r rows k a (i, within, here) = (suc i, omega arith, here)
 -- a row at any place, past the last an empty one
 pub at_found : (rows : List Row) (i : ℕ) (k a : Words) → row_answer (slice_index_or rows i empty_row) k ≡ Some a → HasPair rows k a
 at_found [] i k a f = absurd cc
-at_found (r ∷ rows) zero k a f = (0, omega arith, one_found r k a f)
+at_found (r ∷ rows) zero k a f = (0, omega arith, row_found r k a f)
 at_found (r ∷ rows) (suc i) k a f = later r rows k a (at_found rows i k a f)
 
 -- the first of several
