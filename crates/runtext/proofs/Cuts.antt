@@ -1,10 +1,9 @@
 -- Where a text is cut. Assumes nothing.
 use Rattle.std.proofs.Common.{◌≡◌, ℕ, ◌<◌, List, [], ◌∷◌, ◌++◌, Some, None, Option, sym, refl, ap, ◌∙◌, subst, arith}
-use Rattle.std.proofs.ByRecursion.{All-from_get_or}
-use Rattle.runtext.specs.Lines.{two}
+use Rattle.runtext.specs.Lines.{two, Number}
 use Rattle.runtext.specs.Numerals.{numeral}
 use Rattle.runtext.specs.Reading.{Lacks, Cut}
-use Rattle.runtext.proofs.Numerals.{numeral_hexit, numeral_same, hexit_least}
+use Rattle.runtext.proofs.Numerals.{numeral_all, numeral_same, hexit_least}
 
 pub head_same : {x y : ℕ} {xs ys : List ℕ} → x ∷ xs ≡ y ∷ ys → x ≡ y
 head_same e = cc
@@ -40,11 +39,9 @@ cut_finds c bs front (Some after) a x lf cut la e =
 
 -- a numeral has digits alone
 pub numeral_lacks : (c n : ℕ) → c < 48 → Lacks c (numeral n)
-numeral_lacks c n small = All-from_get_or (λ b. b ≡ c → ⊥) (numeral n) 0 (λ i l e.
-    let d = numeral_hexit n i l in
-    omega (arith, hexit_least d.0, d.2, e))
+numeral_lacks c n small = numeral_all (λ b. b ≡ c → ⊥) (λ d l e. omega (arith, hexit_least d)) n
 
-pub two_same : (k l m n : ℕ) → two k l ≡ two m n → (k ≡ m) × (l ≡ n)
-two_same k l m n e =
+pub two_same : (k l m n : ℕ) → Number k → Number l → two k l ≡ two m n → (k ≡ m) × (l ≡ n)
+two_same k l m n hk hl e =
     let r = cut_same 9 (numeral k) (numeral m) (numeral l) (numeral n) (numeral_lacks 9 k (omega arith)) (numeral_lacks 9 m (omega arith)) e in
-    (numeral_same k m r.0, numeral_same l n r.1)
+    (numeral_same k m hk r.0, numeral_same l n hl r.1)

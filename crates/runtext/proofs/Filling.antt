@@ -87,7 +87,7 @@ module _ {text : List ℕ} {ws : List Word} {ks : List BlockKey} {cs : List Call
         record {
           spells = s;
           counted = f.sofar.counted;
-          only = λ r t. text_same r (run_in ws' ks' cs' found) (t.1 ∙ sym s.1);
+          only = λ r t. text_same r (run_in ws' ks' cs' found) t.0.spellable (t.1 ∙ sym s.1);
           words = f.words;
           keys = f.keys;
           calls = f.calls;

@@ -17,16 +17,16 @@ use Rattle.runtext.proofs.Runs.{line_same, lines_same, goes, held, joined_append
 use Rattle.runtext.proofs.Sofar.{Sofar, add, empty, start, further, spell_add, spell_empty}
 
 -- of two rows of lines that begin a text one begins the other
-compare : (ls ms : List Line) (x y : List ℕ) → flat_map spell_line ls ++ x ≡ flat_map spell_line ms ++ y → ((ls ≡ ms) × (x ≡ y)) ⊎ (((n : Line) × (ns : List Line) × (ls ≡ ms ++ (n ∷ ns))) ⊎ ((n : Line) × (ns : List Line) × (ms ≡ ls ++ (n ∷ ns))))
-compare [] [] x y e = inl (refl, e)
-compare [] (m ∷ ms) x y e = inr (inr (m, ms, refl))
-compare (l ∷ ls) [] x y e = inr (inl (l, ls, refl))
-compare (l ∷ ls) (m ∷ ms) x y e =
-    let p = line_same l m (flat_map spell_line ls ++ x) (flat_map spell_line ms ++ y) (sym (append_assoc (spell_line l) (flat_map spell_line ls) x) ∙ e ∙ append_assoc (spell_line m) (flat_map spell_line ms) y) in
+compare : (ls ms : List Line) (x y : List ℕ) → AllByRecursion Sound ls → flat_map spell_line ls ++ x ≡ flat_map spell_line ms ++ y → ((ls ≡ ms) × (x ≡ y)) ⊎ (((n : Line) × (ns : List Line) × (ls ≡ ms ++ (n ∷ ns))) ⊎ ((n : Line) × (ns : List Line) × (ms ≡ ls ++ (n ∷ ns))))
+compare [] [] x y h e = inl (refl, e)
+compare [] (m ∷ ms) x y h e = inr (inr (m, ms, refl))
+compare (l ∷ ls) [] x y h e = inr (inl (l, ls, refl))
+compare (l ∷ ls) (m ∷ ms) x y h e =
+    let p = line_same l m (flat_map spell_line ls ++ x) (flat_map spell_line ms ++ y) h.0 (sym (append_assoc (spell_line l) (flat_map spell_line ls) x) ∙ e ∙ append_assoc (spell_line m) (flat_map spell_line ms) y) in
     ⊎_elim
     (λ s. inl ((λ i. p.0 i ∷ s.0 i), s.1))
     (λ o. inr (⊎_elim (λ n. inl (n.0, n.1, λ i. p.0 i ∷ n.2 i)) (λ n. inr (n.0, n.1, λ i. sym p.0 i ∷ n.2 i)) o))
-    (compare ls ms x y p.1)
+    (compare ls ms x y h.1 p.1)
 
 spell_apart : (q r : Run) (x y : List ℕ) → spell q ++ x ≡ spell r ++ y → flat_map spell_line (lines q) ++ x ≡ flat_map spell_line (lines r) ++ y
 unfolding spell
@@ -94,7 +94,7 @@ module _ (p : Counts) (text : List ℕ) (short : length text ≤ 65536) where
       (λ n. absurd (passes p text y.0 x.0 rest' rest n.0 n.1 short y.1 x.1 sy sx n.2 (λ q h f. k' q h (f ∙ ap (λ t. t ++ first_line rest') y.2))))
       (λ n. absurd (passes p text x.0 y.0 rest rest' n.0 n.1 short x.1 y.1 sx sy n.2 (λ q h f. k q h (f ∙ ap (λ t. t ++ first_line rest) x.2))))
       o)
-      (compare (lines x.0) (lines y.0) rest rest' (spell_apart x.0 y.0 rest rest' (sx ∙ sym sy)))
+      (compare (lines x.0) (lines y.0) rest rest' x.1.spellable.sound (spell_apart x.0 y.0 rest rest' (sx ∙ sym sy)))
 
   bad_same : (e d : Refusal) → BadLine p text e → BadLine p text d → e ≡ d
   bad_same e d a b = by_before e d a.front a.rest a.found b.front b.rest b.found a.split b.split a.breaks b.breaks a.blames b.blames a.before b.before

@@ -135,7 +135,7 @@ module _ {p : Counts} {r : Run} {i : ℕ} {found : Counts} {q : Run} (g : Going 
     module _ {c : Condition} (f : Faulty p found l c) where
       told : Steps p found (flat_map spell_line (drop i (lines r))) None
       told x v e =
-          let same = (line_same x.0 l x.1 (flat_map spell_line (drop (i + 1) (lines r))) (e ∙ spelt_left h)).0 in
+          let same = (line_same x.0 l x.1 (flat_map spell_line (drop (i + 1) (lines r))) v.0 (e ∙ spelt_left h)).0 in
           ⊎_elim
           (λ a. v.1.0 (subst (λ m. Full p found (kind_of m)) (sym same) a.1))
           (λ a. a.2 (subst Sound same v.0))

@@ -12,9 +12,9 @@ use Rattle.runtext.specs.declared.line.Kind.TheVariants as kind
 use Rattle.runtext.specs.declared.line.Line.{Line}
 use Rattle.runtext.specs.declared.line.Line.TheVariants as line
 use Rattle.runtext.specs.declared.line.Verb.TheVariants as verb
-use Rattle.runtext.specs.Lines.{letter, two, call_fields, fields, verb_of, kind_of, spell_fields, spell_line, Sound}
+use Rattle.runtext.specs.Lines.{letter, two, call_fields, fields, verb_of, kind_of, spell_fields, spell_line, SoundCall, Sound}
 use Rattle.runtext.specs.Numerals.{numeral}
-use Rattle.runtext.specs.Runs.{Run, lines, spell, counts, Readable}
+use Rattle.runtext.specs.Runs.{Run, lines, spell, counts, Spellable, Readable}
 use Rattle.runtext.specs.Verdicts.{Late, Goes}
 use Rattle.runtext.proofs.ByKind.{by_kind, by_verb}
 use Rattle.runtext.proofs.Cuts.{head_same, tail_same, cut_same, numeral_lacks, two_same}
@@ -22,48 +22,49 @@ use Rattle.runtext.proofs.Lines.{letter_same, access_same, source_same, spell_la
 use Rattle.runtext.proofs.Numerals.{numeral_same}
 
 -- a call and a line are told by their fields
-call_same : (d c : Call) → verb_of c ≡ verb_of d → call_fields c ≡ call_fields d → c ≡ d
-call_same (call.LoadControl r v) c e = by_verb (λ c. call_fields c ≡ two r v → c ≡ call.LoadControl r v) verb.LoadControl (λ s w f. let t = two_same s w r v f in λ i. call.LoadControl (t.0 i) (t.1 i)) c e
-call_same (call.LoadAccess r v) c e = by_verb (λ c. call_fields c ≡ two r v → c ≡ call.LoadAccess r v) verb.LoadAccess (λ s w f. let t = two_same s w r v f in λ i. call.LoadAccess (t.0 i) (t.1 i)) c e
+call_same : (d c : Call) → verb_of c ≡ verb_of d → SoundCall c → call_fields c ≡ call_fields d → c ≡ d
+call_same (call.LoadControl r v) c e = by_verb (λ c. SoundCall c → call_fields c ≡ two r v → c ≡ call.LoadControl r v) verb.LoadControl (λ s w h f. let t = two_same s w r v h.0 h.1 f in λ i. call.LoadControl (t.0 i) (t.1 i)) c e
+call_same (call.LoadAccess r v) c e = by_verb (λ c. SoundCall c → call_fields c ≡ two r v → c ≡ call.LoadAccess r v) verb.LoadAccess (λ s w h f. let t = two_same s w r v h.0 h.1 f in λ i. call.LoadAccess (t.0 i) (t.1 i)) c e
 call_same (call.LoadMode m s k) c e =
-    by_verb (λ c. call_fields c ≡ call_fields (call.LoadMode m s k) → c ≡ call.LoadMode m s k) verb.LoadMode (λ n t l f.
+    by_verb (λ c. SoundCall c → call_fields c ≡ call_fields (call.LoadMode m s k) → c ≡ call.LoadMode m s k) verb.LoadMode (λ n t l h f.
     let p = cut_same 9 (numeral n) (numeral m) (two t l) (two s k) (numeral_lacks 9 n (omega arith)) (numeral_lacks 9 m (omega arith)) f in
-    let q = numeral_same n m p.0 in
-    let u = two_same t l s k p.1 in
+    let q = numeral_same n m h.0 p.0 in
+    let u = two_same t l s k h.1 h.2 p.1 in
     λ i. call.LoadMode (q i) (u.0 i) (u.1 i)) c e
-call_same (call.SetPrefix p) c e = by_verb (λ c. call_fields c ≡ numeral p → c ≡ call.SetPrefix p) verb.SetPrefix (λ q f. ap call.SetPrefix (numeral_same q p f)) c e
+call_same (call.SetPrefix p) c e = by_verb (λ c. SoundCall c → call_fields c ≡ numeral p → c ≡ call.SetPrefix p) verb.SetPrefix (λ q h f. ap call.SetPrefix (numeral_same q p h f)) c e
 call_same (call.Translate a r d) c e =
-    by_verb (λ c. call_fields c ≡ call_fields (call.Translate a r d) → c ≡ call.Translate a r d) verb.Translate (λ b s g f.
+    by_verb (λ c. SoundCall c → call_fields c ≡ call_fields (call.Translate a r d) → c ≡ call.Translate a r d) verb.Translate (λ b s g h f.
     let p = access_same b a (head_same f) in
-    let t = two_same s g r d (tail_same (tail_same f)) in
+    let t = two_same s g r d h.0 h.1 (tail_same (tail_same f)) in
     λ i. call.Translate (p i) (t.0 i) (t.1 i)) c e
-call_same (call.Put r v) c e = by_verb (λ c. call_fields c ≡ two r v → c ≡ call.Put r v) verb.Put (λ s w f. let t = two_same s w r v f in λ i. call.Put (t.0 i) (t.1 i)) c e
-call_same (call.Purge s) c e = by_verb (λ c. call_fields c ≡ call_fields (call.Purge s) → c ≡ call.Purge s) verb.Purge (λ t f. ap call.Purge (source_same t s (head_same f))) c e
+call_same (call.Put r v) c e = by_verb (λ c. SoundCall c → call_fields c ≡ two r v → c ≡ call.Put r v) verb.Put (λ s w h f. let t = two_same s w r v h.0 h.1 f in λ i. call.Put (t.0 i) (t.1 i)) c e
+call_same (call.Purge s) c e = by_verb (λ c. SoundCall c → call_fields c ≡ call_fields (call.Purge s) → c ≡ call.Purge s) verb.Purge (λ t h f. ap call.Purge (source_same t s (head_same f))) c e
 
-fields_same : (m l : Line) → kind_of l ≡ kind_of m → fields l ≡ fields m → l ≡ m
+fields_same : (m l : Line) → kind_of l ≡ kind_of m → Sound l → fields l ≡ fields m → l ≡ m
 fields_same (line.Doubleword w) l e =
-    by_kind (λ l. fields l ≡ fields (line.Doubleword w) → l ≡ line.Doubleword w) kind.Doubleword (λ v f.
-    let t = two_same v.address v.value w.address w.value f in
+    by_kind (λ l. Sound l → fields l ≡ fields (line.Doubleword w) → l ≡ line.Doubleword w) kind.Doubleword (λ v h f.
+    let t = two_same v.address v.value w.address w.value h.0 h.1 f in
     λ i. line.Doubleword (record { address = t.0 i; value = t.1 i })) l e
 fields_same (line.Key k) l e =
-    by_kind (λ l. fields l ≡ fields (line.Key k) → l ≡ line.Key k) kind.Key (λ j f.
-    let t = two_same j.block j.key k.block k.key f in
+    by_kind (λ l. Sound l → fields l ≡ fields (line.Key k) → l ≡ line.Key k) kind.Key (λ j h f.
+    let t = two_same j.block j.key k.block k.key h.0 (omega arith) f in
     λ i. line.Key (record { block = t.0 i; key = t.1 i })) l e
 fields_same (line.Call c) l e =
-    by_kind (λ l. fields l ≡ call_fields c → l ≡ line.Call c) (kind.Call (verb_of c)) (λ d g f. ap line.Call (call_same c d g f)) l e
+    by_kind (λ l. Sound l → fields l ≡ call_fields c → l ≡ line.Call c) (kind.Call (verb_of c)) (λ d g h f. ap line.Call (call_same c d g h f)) l e
 
-pub line_same : (l m : Line) (x y : List ℕ) → spell_line l ++ x ≡ spell_line m ++ y → (l ≡ m) × (x ≡ y)
-line_same l m x y e =
+-- a line that may stand in a text is told by its bytes
+pub line_same : (l m : Line) (x y : List ℕ) → Sound l → spell_line l ++ x ≡ spell_line m ++ y → (l ≡ m) × (x ≡ y)
+line_same l m x y h e =
     let p = cut_same 10 (spell_fields l) (spell_fields m) x y (spell_lacks l) (spell_lacks m) (sym (append_assoc (spell_fields l) (10 ∷ []) x) ∙ e ∙ append_assoc (spell_fields m) (10 ∷ []) y) in
-    (fields_same m l (letter_same (kind_of l) (kind_of m) (head_same p.0)) (tail_same (tail_same p.0)), p.1)
+    (fields_same m l (letter_same (kind_of l) (kind_of m) (head_same p.0)) h (tail_same (tail_same p.0)), p.1)
 
 -- lines that spell a text that others begin go on from these
-go_on : (ms ls : List Line) (x : List ℕ) → flat_map spell_line ls ≡ flat_map spell_line ms ++ x → (ns : List Line) × (ls ≡ ms ++ ns) × (x ≡ flat_map spell_line ns)
-go_on [] ls x e = (ls, refl, sym e)
-go_on (m ∷ ms) [] x e = absurd (omega (arith, ap length e))
-go_on (m ∷ ms) (l ∷ ls) x e =
-    let p = line_same l m (flat_map spell_line ls) (flat_map spell_line ms ++ x) (e ∙ append_assoc (spell_line m) (flat_map spell_line ms) x) in
-    let q = go_on ms ls x p.1 in
+go_on : (ms ls : List Line) (x : List ℕ) → AllByRecursion Sound ls → flat_map spell_line ls ≡ flat_map spell_line ms ++ x → (ns : List Line) × (ls ≡ ms ++ ns) × (x ≡ flat_map spell_line ns)
+go_on [] ls x h e = (ls, refl, sym e)
+go_on (m ∷ ms) [] x h e = absurd (omega (arith, ap length e))
+go_on (m ∷ ms) (l ∷ ls) x h e =
+    let p = line_same l m (flat_map spell_line ls) (flat_map spell_line ms ++ x) h.0 (e ∙ append_assoc (spell_line m) (flat_map spell_line ms) x) in
+    let q = go_on ms ls x h.1 p.1 in
     (q.0, (λ i. p.0 i ∷ q.1 i), q.2)
 
 -- what a line holds of each sort
@@ -198,9 +199,9 @@ goes p q r (line.Call c) zs h e =
     (λ f. omega (arith, more, ap length (calls_of_lines q), ap length (calls_of_lines r), h.calls), in_order q r (line.Call c) zs e)
 
 -- a text that goes on from the text of a run
-run_goes_on : (q r : Run) (x : List ℕ) → spell q ≡ spell r ++ x → (ns : List Line) × (lines q ≡ lines r ++ ns) × (x ≡ flat_map spell_line ns)
+run_goes_on : (q r : Run) (x : List ℕ) → Spellable q → spell q ≡ spell r ++ x → (ns : List Line) × (lines q ≡ lines r ++ ns) × (x ≡ flat_map spell_line ns)
 unfolding spell
-run_goes_on q r x e = go_on (lines r) (lines q) x (ap (drop 6) e)
+run_goes_on q r x h e = go_on (lines r) (lines q) x h.sound (ap (drop 6) e)
 
 -- what holds of each line holds of one
 pub held : (ls : List Line) (z : Line) (zs : List Line) → AllByRecursion Sound (ls ++ (z ∷ zs)) → Sound z
@@ -209,7 +210,7 @@ held (l ∷ ls) z zs a = held ls z zs a.1
 
 pub next_line : (p : Counts) (q r : Run) (x : List ℕ) → Readable p q → spell q ≡ spell r ++ x → (x ≡ []) ⊎ ((l : Line) × (after : List ℕ) × Sound l × Goes p (counts r) (kind_of l) × (spell_line l ++ after ≡ x))
 next_line p q r x h e =
-    let n = run_goes_on q r x e in
+    let n = run_goes_on q r x h.spellable e in
     by_lines n.0 n.1 n.2
   where
     by_lines : (ns : List Line) → lines q ≡ lines r ++ ns → x ≡ flat_map spell_line ns → (x ≡ []) ⊎ ((l : Line) × (after : List ℕ) × Sound l × Goes p (counts r) (kind_of l) × (spell_line l ++ after ≡ x))
@@ -217,9 +218,9 @@ next_line p q r x h e =
     by_lines (z ∷ zs) a b = inr (z, flat_map spell_line zs, held (lines r) z zs (subst (AllByRecursion Sound) a h.spellable.sound), goes p q r z zs h a, sym b)
 
 -- a text says one run
-pub text_same : (q r : Run) → spell q ≡ spell r → q ≡ r
-text_same q r e =
-    let n = run_goes_on q r [] (e ∙ sym (append-nil (spell r))) in
+pub text_same : (q r : Run) → Spellable q → spell q ≡ spell r → q ≡ r
+text_same q r h e =
+    let n = run_goes_on q r [] h (e ∙ sym (append-nil (spell r))) in
     by_lines n.0 n.1 n.2
   where
     by_lines : (ns : List Line) → lines q ≡ lines r ++ ns → [] ≡ flat_map spell_line ns → q ≡ r

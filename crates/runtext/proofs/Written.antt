@@ -23,7 +23,7 @@ written r before after n s l =
     }
 
 pub reads_back : (r : Run) (text : List ℕ) → Spellable r → text ≡ spell r → ReadsBack r text
-reads_back r text s e = λ p h. ((record { spellable = s; words = h.0; keys = h.1; calls = h.2 }, sym e), λ q h. text_same q r (h.1 ∙ e))
+reads_back r text s e = λ p h. ((record { spellable = s; words = h.0; keys = h.1; calls = h.2 }, sym e), λ q h. text_same q r h.0.spellable (h.1 ∙ e))
 
 -- what the writer tells of a run, its buffer and the places of a reader
 abbrev pub Told : ℕ → Run → Result ℕ Refusal → Counts → Type 0

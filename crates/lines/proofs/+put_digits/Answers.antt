@@ -21,7 +21,7 @@ returns g t c =
       | then-n-ge16+in_ok-put_digits w ↦ λ p ok.
           let front = w.in_ok-put_digits.ensures p refl in
           let rest = c.write_char.ensures.writes (subst IsPlainFormatter (sym w.f-is) front.plain) ok in
-          has_written_of_eq took _ _ _ _ (ap (λ bs. numeral (c.args.n / 16) ++ bs) last ∙ sym (numeral_last c.args.n (omega arith)))
+          has_written_of_eq took _ _ _ _ (ap (λ bs. numeral (c.args.n / 16) ++ bs) last ∙ sym (numeral_last c.args.n (omega arith) (omega arith)))
           (has_written_append took _ _ _ _ _ front (has_written_from_eq took _ _ _ _ w.f-is rest))
       | else-n-ge16 w ↦ λ p ok.
           let one = c.write_char.ensures.writes (subst IsPlainFormatter (sym w.f-is) p) ok in

@@ -10,10 +10,10 @@ pub lay_byte-requires : goal.lay_byte-requires
 lay_byte-requires t c = omega (arith, ap length (numeral_digit c.args.n (omega arith)))
 
 pub lay_number-last-requires : goal.lay_number-last-requires
-lay_number-last-requires t c = omega (arith, ap length (numeral_last c.args.n (omega arith)), length_push (numeral (c.args.n / 16)) (hexit (c.args.n % 16)))
+lay_number-last-requires t c = omega (arith, ap length (numeral_last c.args.n (omega arith) (omega arith)), length_push (numeral (c.args.n / 16)) (hexit (c.args.n % 16)))
 
 pub lay_byte-requires-else-n-lt16 : goal.lay_byte-requires-else-n-lt16
-lay_byte-requires-else-n-lt16 t c = omega (arith, ap length (numeral_last c.args.n (omega arith)), length_push (numeral (c.args.n / 16)) (hexit (c.args.n % 16)), c.lay_number-last.ensures.ends)
+lay_byte-requires-else-n-lt16 t c = omega (arith, ap length (numeral_last c.args.n (omega arith) (omega arith)), length_push (numeral (c.args.n / 16)) (hexit (c.args.n % 16)), c.lay_number-last.ensures.ends)
 
 pub returns-then-n-lt16 : goal.returns-then-n-lt16
 returns-then-n-lt16 t c =
@@ -23,5 +23,5 @@ returns-then-n-lt16 t c =
 pub returns-else-n-lt16 : goal.returns-else-n-lt16
 returns-else-n-lt16 t c =
     subst (λ bs. Laid c.args.at bs c.args.text.now c.lay_byte-else-n-lt16.new.text c.lay_byte-else-n-lt16.result)
-    (ap (λ d. numeral (c.args.n / 16) ++ d ∷ []) c.digit_of-else-n-lt16.ensures ∙ sym (numeral_last c.args.n (omega arith)))
+    (ap (λ d. numeral (c.args.n / 16) ++ d ∷ []) c.digit_of-else-n-lt16.ensures ∙ sym (numeral_last c.args.n (omega arith) (omega arith)))
     (laid_more c.lay_number-last.ensures c.lay_byte-else-n-lt16.ensures (omega arith))

@@ -13,7 +13,7 @@ returns-then-field-gt-DIGITS c = λ n h e. omega (arith, numeral_short n h, ap l
 
 pub returns-then-field-gt1 : goal.returns-then-field-gt1
 returns-then-field-gt1 c = λ n h e.
-    let z = numeral_lead n (ap (λ l. get_or l 0 0) e ∙ c.if-field-eq48.true) in
+    let z = numeral_lead n h (ap (λ l. get_or l 0 0) e ∙ c.if-field-eq48.true) in
     omega (arith, c.if-field-gt1.true, ap length (sym e ∙ ap numeral z ∙ numeral_zero))
 
 pub returns-then-field-eq48-2 : goal.returns-then-field-eq48-2
@@ -70,5 +70,5 @@ returns c =
     let bs = c.args.field.now in
     let whole : length bs ≤ c.loop-b.b-index = omega arith in (
       under_all c.loop-b.n c.loop-b.b-index c.loop-b.invariant.1 (omega arith),
-      numeral_positive c.loop-b.n (c.loop-b.invariant.2 (omega arith)) ∙ c.loop-b.invariant.0 ∙ take_all c.loop-b.b-index bs whole,
+      numeral_positive c.loop-b.n (under_all c.loop-b.n c.loop-b.b-index c.loop-b.invariant.1 (omega arith)) (c.loop-b.invariant.2 (omega arith)) ∙ c.loop-b.invariant.0 ∙ take_all c.loop-b.b-index bs whole,
     )

@@ -9,7 +9,7 @@ returns-then-n-lt16 t c = record { size = omega (arith, ap length (numeral_digit
 
 pub returns-else-n-lt16 : goal.returns-else-n-lt16
 returns-else-n-lt16 t c =
-    let long = ap length (numeral_last c.args.n (omega arith)) in
+    let long = ap length (numeral_last c.args.n (omega arith) (omega arith)) in
     let push = length_push (numeral (c.args.n / 16)) (hexit (c.args.n % 16)) in
     record {
       size = omega (arith, c.number_size.ensures.size);
