@@ -5,13 +5,11 @@ ghost use Rattle.std.specs.Prelude.{◌≡◌, ◌+◌, ◌^◌, ◌<◌, ◌≤
 ghost use Rattle.lines.specs.Refusals.{refusal_line};
 ghost use Rattle.listing.specs.Listings.{places, RoomForAll, Recorded, ListsRun, Lists};
 ghost use Rattle.lookaside.specs.Rows.{empty_row};
-ghost use Rattle.runtext.specs.Runs.{lent};
-ghost use Rattle.runtext.specs.Writing.{run_of};
+ghost use Rattle.runtext.specs.Runs.{Within, lent, run_in};
 ghost use Rattle.machine.specs.declared.request.Request.TheVariants.{Line};
 
 use arch::call::Call;
 use arch::record::{BlockKey, Word};
-use input::{CALLS, KEYS, WORDS};
 use lines::RefusalLine;
 use lookaside::direct_mapped::{DirectMapped, DirectMappedTable};
 use lookaside::round_robin::{RoundRobin, RoundRobinTable};
@@ -19,7 +17,8 @@ use lookup::kinds::{AccessRegister, Paging};
 use lookup::source::{Source, TableWalk};
 use machine::{Outcome, Request};
 use print::print_outcomes;
-use runtext::{Counts, Refusal};
+use runtext::run::Places;
+use runtext::{CALLS, Counts, KEYS, Refusal, WORDS};
 use std::alloc::{AllocError, Global};
 use storage::prefix::Prefixed;
 use storage::sparse::Sparse;
@@ -54,20 +53,25 @@ fn requests(heap: Global, calls: &[Call]) -> Result<Vec<Request>, AllocError>
     Ok(requests)
 }
 
-// Makes the calls of a run over its storage, and keeps the record of what came of each.
+// Makes the calls of the run in the first places over its storage, and keeps the record of what came
+// of each. The doublewords there are then as the calls left them.
 fn record<A: Source<AccessRegister>, P: Source<Paging>>(
     heap: Global,
-    words: &mut [Word],
-    keys: &[BlockKey],
-    calls: &[Call],
+    places: Places<'_>,
+    found: Counts,
     arts: &mut A,
     pages: &mut P,
 ) -> Result<Vec<Outcome>, AllocError>
-    ensures { IfOk result (λ os. Recorded A.Source.shows A.Source.moves A.Source.clears P.Source.shows P.Source.moves P.Source.clears (run_of words.old keys.now calls.now) os.items arts.old pages.old arts.new pages.new) }
+    requires { Within found (lent places) }
+    ensures { IfOk result (λ os. Recorded A.Source.shows A.Source.moves A.Source.clears P.Source.shows P.Source.moves P.Source.clears (run_in places.entry found) os.items arts.old pages.old arts.new pages.new) }
 {
-    let requests = requests(heap, calls)?;
-    let mut outcomes = vec![in heap; Outcome::Purged; calls.len()]?;
-    let mut storage = Prefixed::new(Sparse { words, keys });
+    let Places { words, keys, calls } = places;
+    let requests = requests(heap, &calls[..found.calls])?;
+    let mut outcomes = vec![in heap; Outcome::Purged; found.calls]?;
+    let mut storage = Prefixed::new(Sparse {
+        words: &mut words[..found.words],
+        keys: &keys[..found.keys],
+    });
     match runs::run(&mut storage, arts, pages, &requests, &mut outcomes) {
         Ok(()) => Ok(outcomes),
         // there is a place for each outcome
@@ -75,20 +79,20 @@ fn record<A: Source<AccessRegister>, P: Source<Paging>>(
     }
 }
 
-// The listing of a run.
+// The listing of the run in the first places.
 fn list_run<A: Source<AccessRegister>, P: Source<Paging>>(
     heap: Global,
-    words: &mut [Word],
-    keys: &[BlockKey],
-    calls: &[Call],
+    places: Places<'_>,
+    found: Counts,
     arts: &mut A,
     pages: &mut P,
 ) -> Result<String, AllocError>
-    requires { length words.old + length keys.now + 2 + length calls.now < 2 ^ 64 }
-    ensures { IfOk result (λ out. ListsRun A.Source.shows A.Source.moves A.Source.clears P.Source.shows P.Source.moves P.Source.clears (run_of words.old keys.now calls.now) (string_bytes out) arts.old pages.old arts.new pages.new) }
+    requires places { Within found (lent places) }
+    requires lines { found.words + found.keys + 2 + found.calls < 2 ^ 64 }
+    ensures { IfOk result (λ out. ListsRun A.Source.shows A.Source.moves A.Source.clears P.Source.shows P.Source.moves P.Source.clears (run_in places.entry found) (string_bytes out) arts.old pages.old arts.new pages.new) }
 {
-    let line = words.len() + keys.len() + 2;
-    let outcomes = record(heap, words, keys, calls, arts, pages)?;
+    let line = found.words + found.keys + 2;
+    let outcomes = record(heap, places, found, arts, pages)?;
     let mut out = String::new(heap);
     print_outcomes(&mut out, line, &outcomes)?;
     Ok(out)
@@ -105,31 +109,15 @@ fn list_refusal(heap: Global, refusal: Refusal) -> Result<String, AllocError>
 fn list_within<A: Source<AccessRegister>, P: Source<Paging>>(
     heap: Global,
     text: &[u8],
-    words: &mut [Word],
-    keys: &mut [BlockKey],
-    calls: &mut [Call],
+    mut places: Places<'_>,
     arts: &mut A,
     pages: &mut P,
 ) -> Result<String, AllocError>
-    requires { length calls.old ≤ 16384 }
-    ensures { IfOk result (λ out. Lists A.Source.shows A.Source.moves A.Source.clears P.Source.shows P.Source.moves P.Source.clears (lent words.old keys.old calls.old) text.now (string_bytes out) arts.old pages.old arts.new pages.new) }
+    requires { length places.calls.now ≤ 16384 }
+    ensures { IfOk result (λ out. Lists A.Source.shows A.Source.moves A.Source.clears P.Source.shows P.Source.moves P.Source.clears (lent places.entry) text.now (string_bytes out) arts.old pages.old arts.new pages.new) }
 {
-    match runtext::read(text, words, keys, calls) {
-        Ok(n) => {
-            let Counts {
-                words: w,
-                keys: k,
-                calls: c,
-            } = n;
-            list_run(
-                heap,
-                &mut words[0..w],
-                &keys[0..k],
-                &calls[0..c],
-                arts,
-                pages,
-            )
-        }
+    match runtext::read(text, &mut places) {
+        Ok(found) => list_run(heap, places, found, arts, pages),
         Err(refusal) => list_refusal(heap, refusal),
     }
 }
@@ -151,5 +139,10 @@ pub fn list<A: Source<AccessRegister>, P: Source<Paging>>(
     }; WORDS]?;
     let mut keys = vec![in heap; BlockKey { block: 0, key: 0 }; KEYS]?;
     let mut calls = vec![in heap; Call::SetPrefix { prefix: 0 }; CALLS]?;
-    list_within(heap, text, &mut words, &mut keys, &mut calls, arts, pages)
+    let places = Places {
+        words: &mut words,
+        keys: &mut keys,
+        calls: &mut calls,
+    };
+    list_within(heap, text, places, arts, pages)
 }

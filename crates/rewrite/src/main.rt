@@ -4,9 +4,11 @@
 
 use arch::call::Call;
 use arch::record::{BlockKey, Word};
-use input::{BYTES, CALLS, KEYS, WORDS};
+use input::BYTES;
 use lines::RefusalLine;
+use runtext::run::Places;
 use runtext::trip::reopened;
+use runtext::{CALLS, KEYS, WORDS};
 use std::io::Write;
 
 fn rewrite(rt: &HostRuntime) -> anyhow::Result<()> {
@@ -20,13 +22,12 @@ fn rewrite(rt: &HostRuntime) -> anyhow::Result<()> {
     let mut keys = vec![in heap; BlockKey { block: 0, key: 0 }; KEYS]?;
     let mut calls = vec![in heap; Call::SetPrefix { prefix: 0 }; CALLS]?;
     let length = input::text(rt, &mut text)?;
-    match reopened(
-        &text[0..length],
-        &mut words,
-        &mut keys,
-        &mut calls,
-        &mut copy,
-    ) {
+    let mut places = Places {
+        words: &mut words,
+        keys: &mut keys,
+        calls: &mut calls,
+    };
+    match reopened(&text[0..length], &mut places, &mut copy) {
         Ok(n) => {
             let mut out = rt.stdout();
             out.write_all(&copy[0..n])?;

@@ -1,9 +1,9 @@
 -- A text has one refusal. Assumes nothing.
-use Rattle.std.proofs.Common.{◌≡◌, ℕ, ◌+◌, ◌≤◌, Bool, true, false, eqb, ltb, ◌⊎◌, List, [], ◌∷◌, ◌++◌, length, drop, MatchBool, sym, refl, ap, ◌∙◌, subst, inl, inr, ⊎_elim, append_assoc, arith}
+use Rattle.std.proofs.Common.{◌≡◌, ℕ, ◌+◌, ◌≤◌, Bool, true, false, eqb, ltb, ◌⊎◌, List, [], ◌∷◌, ◌++◌, length, drop, IfErr, Ok, Err, Result, MatchBool, sym, refl, ap, ◌∙◌, subst, inl, inr, ⊎_elim, append_assoc, arith}
 use Rattle.arch.specs.declared.condition.Condition.{Condition}
 use Rattle.arch.specs.declared.condition.Condition.TheVariants.{TooMuch}
 use Rattle.std.proofs.lemmas.List.Prefix.{front_rest}
-use Rattle.std.proofs.lemmas.Bool.{ltb-false, le-ltb, ne_eqb, cond-false}
+use Rattle.std.proofs.lemmas.Bool.{ltb-false, ne_eqb, cond-false}
 use Rattle.std.specs.List.{flat_map, AllByRecursion}
 use Rattle.runtext.specs.declared.Counts.{Counts}
 use Rattle.runtext.specs.declared.Refusal.{Refusal}
@@ -109,6 +109,7 @@ one_refusal p text e d = by_length (ltb 65536 (length text)) refl
     by_length true _ a b = λ i. record { condition = (a.0 ∙ sym b.0) i; line = (a.1 ∙ sym b.1) i }
     by_length false f a b = bad_same p text (omega (arith, ltb-false 65536 (length text) f)) e d a b
 
--- a text within the limit is refused by its bad line
-pub refused_short : (p : Counts) (text : List ℕ) (e : Refusal) → length text ≤ 65536 → BadLine p text e → Refused p text e
-refused_short p text e h b = subst (λ t. MatchBool t ((e.condition ≡ TooMuch) × (e.line ≡ 1)) (BadLine p text e)) (sym (le-ltb 65536 (length text) h)) b
+-- where a text is refused, that is its one refusal
+pub single : {A : Type 0} (p : Counts) (text : List ℕ) (o : Result A Refusal) → IfErr o (Refused p text) → IfErr o (λ e. (d : Refusal) → Refused p text d → d ≡ e)
+single p text (Ok n) r = tt
+single p text (Err e) r = λ d h. one_refusal p text d e h r

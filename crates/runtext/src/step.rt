@@ -6,15 +6,10 @@ ghost use Rattle.runtext.specs.Reading.{Reads};
 ghost use Rattle.runtext.specs.Runs.{header};
 ghost use Rattle.runtext.specs.Verdicts.{Full, Late, Blames, first_field};
 
-use crate::Counts;
 use crate::cut::cut;
-use crate::line::{Kind, LINE_END, Line, TAB, kind_named, line_of, lone};
+use crate::line::{Kind, LINE_END, Letter, Line, TAB, line_of, lone};
+use crate::{Counts, KEYS, WORDS};
 use arch::condition::Condition;
-
-// A run has at most this many doublewords, and block keys.
-const WORDS: usize = 1024;
-
-const KEYS: usize = 256;
 
 pub(crate) fn full(places: Counts, found: Counts, kind: Kind) -> bool
     ensures { Decides result (Full places found kind) }
@@ -58,7 +53,7 @@ pub(crate) fn blame(rest: &[u8], places: Counts, found: Counts) -> Condition
     let Some(letter) = lone(first) else {
         return Condition::BadText;
     };
-    let Some(kind) = kind_named(letter) else {
+    let Some(kind) = Kind::of_letter(letter) else {
         return Condition::BadText;
     };
     if full(places, found, kind) {
@@ -75,7 +70,7 @@ pub(crate) fn step(rest: &[u8], places: Counts, found: Counts) -> Option<(Line, 
     let (line, after) = cut(rest, LINE_END);
     let (first, fields) = cut(line, TAB);
     let letter = lone(first)?;
-    let kind = kind_named(letter)?;
+    let kind = Kind::of_letter(letter)?;
     if full(places, found, kind) || late(found, kind) {
         return None;
     }

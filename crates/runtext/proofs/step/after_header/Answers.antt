@@ -2,12 +2,9 @@ use Rattle.std.proofs.Common.{sym, ◌∙◌}
 use Rattle.std.proofs.lemmas.Slice.Eq.{slice_eq-Decides}
 use Rattle.std.proofs.lemmas.Bool.{both_ways}
 use Rattle.runtext.proofs.Cuts.{cut_finds}
-use Rattle.runtext.proofs.Lines.{title, title_lacks, after_title}
+use Rattle.runtext.proofs.Lines.{title, title_lacks}
 use Rattle.runtext.proofs.step.after_header.Goals as goal
 use Rattle.std.proofs.lemmas.Bool.Decides.{Decides-eqb}
-
-pub returns-then-eq : goal.returns-then-eq
-returns-then-eq c = after_title _ _ _ c.cut.ensures.parts ((slice_eq-Decides Decides-eqb c.cut.result.0.now c.as_slice.result.now _ c.eq.ensures).0 c.if-eq.true ∙ c.as_slice.ensures)
 
 pub returns-else-eq : goal.returns-else-eq
 returns-else-eq c = λ x _ e.

@@ -1,10 +1,8 @@
-use Rattle.std.proofs.Common.{sym, ap, ◌∙◌, subst}
-use Rattle.std.proofs.lemmas.Bool.{both_ways}
+use Rattle.std.proofs.Common.{sym, ap, ◌∙◌}
 use Rattle.std.specs.Option.{option_map}
 use Rattle.runtext.specs.Lines.{letter, kind_of}
-use Rattle.runtext.specs.Verdicts.{Full, Late}
 use Rattle.runtext.proofs.Cuts.{head_same, none_some, some_same}
-use Rattle.runtext.proofs.Lines.{letter_same, parted, made_up}
+use Rattle.runtext.proofs.Lines.{letter_same, parted}
 use Rattle.runtext.proofs.step.step.Goals as goal
 
 pub returns-in_err-letter : goal.returns-in_err-letter
@@ -22,17 +20,3 @@ pub returns-in_err-after : goal.returns-in_err-after
 returns-in_err-after c = rw c.from_residual-in_err-after.ensures (λ x v e.
     let p = parted x.0 x.1 _ _ _ _ _ c.cut.ensures.lacks c.cut.ensures.parts c.cut-2.ensures.lacks c.cut-2.ensures.parts e in
     none_some (sym (ap (option_map (λ x. x.now)) c.in_err-after.was) ∙ p.ends))
-
-pub returns : goal.returns
-returns c =
-    let l = c.in_ok-line.ensures in
-    let k = l.0.1 in (
-      (
-        l.0.0,
-        (
-          λ f. both_ways _ c.if-full.false (c.full.ensures.1 (subst (Full c.args.places c.args.found) k f)),
-          λ f. both_ways _ c.if-late.false (c.late.ensures.1 (subst (Late c.args.found) k f)),
-        ),
-      ),
-      made_up c.in_ok-line.line c.in_ok-letter.letter _ _ _ _ _ _ _ (ap letter k ∙ c.in_ok-kind.ensures.1) c.in_ok-letter.ensures.1 l.1 (ap (option_map (λ x. x.now)) c.in_ok-fields.was) c.cut-2.ensures.parts (ap (option_map (λ x. x.now)) c.in_ok-after.was) c.cut.ensures.parts,
-    )

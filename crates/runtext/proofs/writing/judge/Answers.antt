@@ -1,0 +1,29 @@
+use Rattle.std.proofs.Common.{ap, ◌∙◌, arith}
+use Rattle.runtext.specs.Runs.{lines_left}
+use Rattle.runtext.proofs.Outgoing.{set_out, arrived, go_further, stopped, no_text}
+use Rattle.runtext.proofs.Sofar.{add, empty, few}
+use Rattle.runtext.proofs.writing.judge.Goals as goal
+
+pub loop-line-init : goal.loop-line-init
+loop-line-init c = (empty, set_out c.args.places c.args.run.now _ (ap lines_left c.into_iter-line-iterator.ensures.into_iter_gives ∙ c.lines-line-items.ensures))
+
+pub next_line-requires : goal.next_line-requires
+next_line-requires c = omega (arith, few _ _ _ _ _ c.loop-line.invariant.1.sofar, c.requires)
+
+pub one_more-found-requires : goal.one_more-found-requires
+one_more-found-requires c = omega (arith, few _ _ _ _ _ c.loop-line.invariant.1.sofar, c.requires)
+
+pub returns-in-Some-fault : goal.returns-in-Some-fault
+returns-in-Some-fault c =
+    let g = c.loop-line.invariant.1 in
+    let h = c.in-Some.ensures.steps in
+    let f = c.in-Some-fault.ensures in
+    (stopped g h f c.next_line.result c.next_line.ensures, no_text g h f)
+
+pub loop-line-preserved : goal.loop-line-preserved
+loop-line-preserved c =
+    let ok = c.in_default.ensures in
+    (add c.loop-line.invariant.0 c.in-Some.line, rw c.one_more-found.ensures (go_further c.loop-line.invariant.1 c.in-Some.ensures.steps c.requires ok.0 ok.1))
+
+pub returns : goal.returns
+returns c = arrived c.loop-line.invariant.1 c.in-None.ensures.steps.0
