@@ -1,5 +1,11 @@
 -- Where a text is cut. Assumes nothing.
-use Rattle.std.proofs.Common.{◌≡◌, ℕ, ◌<◌, List, [], ◌∷◌, ◌++◌, Some, None, Option, sym, refl, ap, ◌∙◌, subst, arith}
+use Rattle.std.specs.List.{position, position_or_len}
+use Rattle.std.proofs.ByRecursion.{All-from_get_or}
+use Rattle.std.proofs.lemmas.List.{length-take, get_or-take, drop_more, take-append-drop}
+use Rattle.std.proofs.lemmas.List.Quantifiers.{position-Some}
+use Rattle.std.proofs.lemmas.List.Sums.{fails_before_first}
+use Rattle.std.proofs.lemmas.Bool.{eqb-true, eqb-false, lt-ltb, cond-true, cases_lt}
+use Rattle.std.proofs.Common.{◌+◌, eqb, take, drop, length, ⊎_elim, ◌≤◌, ◌≡◌, ℕ, ◌<◌, List, [], ◌∷◌, ◌++◌, Some, None, Option, sym, refl, ap, ◌∙◌, subst, arith}
 use Rattle.runtext.specs.Lines.{two, Number}
 use Rattle.runtext.specs.Numerals.{numeral}
 use Rattle.runtext.specs.Reading.{Lacks, Cut}
@@ -10,6 +16,30 @@ head_same e = cc
 
 pub tail_same : {x y : ℕ} {xs ys : List ℕ} → x ∷ xs ≡ y ∷ ys → xs ≡ ys
 tail_same e = cc
+
+pub none_some : {A : Type 0} {x : A} → None ≡ Some x → ⊥
+none_some e = let z : ◌≡◌ {A = ℕ} 0 1 = cc in omega arith
+
+-- before the first place of a byte it does not stand, and where it has no place, nowhere
+pub lacks_before : (c : ℕ) (bs : List ℕ) (i : ℕ) → position (λ b. eqb b c) bs ≡ Some i → Lacks c (take i bs)
+lacks_before c bs i e =
+    let p = position-Some (λ b. eqb b c) bs i 0 e in
+    All-from_get_or (λ b. b ≡ c → ⊥) (take i bs) 0 (λ k l h.
+    let k' : k < i = omega (arith, length-take i bs) in
+    eqb-false _ c (p.2 k k') (sym (get_or-take i bs k 0 k') ∙ h))
+
+pub split_at : (c : ℕ) (bs : List ℕ) (i : ℕ) → position (λ b. eqb b c) bs ≡ Some i → bs ≡ take i bs ++ (c ∷ drop (i + 1) bs)
+split_at c bs i e =
+    let p = position-Some (λ b. eqb b c) bs i 0 e in
+    sym (take-append-drop i bs) ∙ ap (λ t. take i bs ++ t) (drop_more bs i 0 p.0) ∙ ap (λ b. take i bs ++ (b ∷ drop (i + 1) bs)) (eqb-true _ c p.1)
+
+pub lacks_all : (c : ℕ) (bs : List ℕ) → position (λ b. eqb b c) bs ≡ None → Lacks c bs
+lacks_all c bs e =
+    let n = position_or_len (λ b. eqb b c) bs in
+    ⊎_elim
+    (λ h. absurd (none_some (sym e ∙ cond-true _ _ _ (lt-ltb n (length bs) h))))
+    (λ h. All-from_get_or (λ b. b ≡ c → ⊥) bs 0 (λ k l. eqb-false _ c (fails_before_first (λ b. eqb b c) bs k 0 (omega arith))))
+    (cases_lt n (length bs))
 
 -- the first place of a byte is one
 pub cut_same : (c : ℕ) (p q x y : List ℕ) → Lacks c p → Lacks c q → p ++ (c ∷ x) ≡ q ++ (c ∷ y) → (p ≡ q) × (x ≡ y)
@@ -23,9 +53,6 @@ cut_same c (a ∷ p) (b ∷ q) x y lp lq e =
 pub lacks_none : (c : ℕ) (p x : List ℕ) → Lacks c (p ++ (c ∷ x)) → ⊥
 lacks_none c [] x h = h.0 refl
 lacks_none c (a ∷ p) x h = lacks_none c p x h.1
-
-pub none_some : {A : Type 0} {x : A} → None ≡ Some x → ⊥
-none_some e = let z : ◌≡◌ {A = ℕ} 0 1 = cc in omega arith
 
 pub some_same : {A : Type 0} {x y : A} → Some x ≡ Some y → x ≡ y
 some_same e = cc

@@ -81,10 +81,9 @@ pub(crate) fn sound(line: Line) -> bool
 pub(crate) fn lone(field: &[u8]) -> Option<u8>
     ensures { Reads result (λ _. Unit {0}) (λ b. b ∷ []) field.now }
 {
-    if field.len() == 1 {
-        Some(field[0])
-    } else {
-        None
+    match field {
+        [b] => Some(*b),
+        _ => None,
     }
 }
 
