@@ -3,7 +3,8 @@
 use arch::call::{Access, Call, SourceName};
 use arch::condition::Condition;
 use arch::record::{BlockKey, Word};
-use runtext::run::{Places, Run};
+use runtext::places::Places;
+use runtext::run::Run;
 use runtext::trip::{reopened, restored};
 use runtext::{Counts, Refusal, read, write};
 use std::alloc::{AllocError, Global};

@@ -17,7 +17,7 @@ use lookup::kinds::{AccessRegister, Paging};
 use lookup::source::{Source, TableWalk};
 use machine::{Outcome, Request};
 use print::print_outcomes;
-use runtext::run::Places;
+use runtext::places::Places;
 use runtext::{CALLS, Counts, KEYS, Refusal, WORDS};
 use std::alloc::{AllocError, Global};
 use storage::prefix::Prefixed;

@@ -6,7 +6,7 @@ use arch::call::Call;
 use arch::record::{BlockKey, Word};
 use input::BYTES;
 use lines::RefusalLine;
-use runtext::run::Places;
+use runtext::places::Places;
 use runtext::trip::reopened;
 use runtext::{CALLS, KEYS, WORDS};
 use std::io::Write;

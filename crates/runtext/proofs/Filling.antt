@@ -5,7 +5,7 @@ use Rattle.std.proofs.lemmas.Bool.{cases_lt}
 use Rattle.runtext.specs.declared.Counts.{Counts}
 use Rattle.runtext.specs.declared.line.Line.{Line}
 use Rattle.runtext.specs.declared.line.Line.TheVariants as line
-use Rattle.runtext.specs.declared.run.Places.{Places}
+use Rattle.runtext.specs.declared.places.Places.{Places}
 use Rattle.runtext.specs.Lines.{kind_of, spell_line, Sound}
 use Rattle.runtext.specs.Passes.{Steps, PutIn, SamePlaces, Left, Filled, one_more}
 use Rattle.runtext.specs.Runs.{Run, header, lent, run_in, Spells}

@@ -7,7 +7,7 @@ use Rattle.arch.specs.declared.record.Word.{Word}
 use Rattle.runtext.specs.declared.Counts.{Counts}
 use Rattle.runtext.specs.declared.line.Line.{Line}
 use Rattle.runtext.specs.declared.line.Line.TheVariants as line
-use Rattle.runtext.specs.declared.run.Places.{Places}
+use Rattle.runtext.specs.declared.places.Places.{Places}
 use Rattle.runtext.specs.Lines.{kind_of, spell_line, Sound}
 use Rattle.runtext.specs.Reading.{Reads}
 use Rattle.runtext.specs.Runs.{Run, counts, lent, run_in, Spells}

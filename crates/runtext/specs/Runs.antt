@@ -7,7 +7,7 @@ use Rattle.std.specs.List.{flat_map, AllByRecursion}
 use Rattle.runtext.specs.declared.Counts.{Counts}
 use Rattle.runtext.specs.declared.line.Line.{Line}
 use Rattle.runtext.specs.declared.run.Lines.{Lines}
-use Rattle.runtext.specs.declared.run.Places.{Places}
+use Rattle.runtext.specs.declared.places.Places.{Places}
 use Rattle.std.specs.Slice.Iter.{iter_rest}
 use Rattle.runtext.specs.declared.line.Line.TheVariants as line
 use Rattle.runtext.specs.Lines.{tab, line_end, spell_line, Sound}
@@ -76,3 +76,14 @@ run_in p n = record { words = take n.words p.words.now; keys = take n.keys p.key
 -- the run r is what this text says, and has places
 abbrev pub Spells : Counts → List ℕ → Run → Type 0
 Spells p text r = Readable p r × (spell r ≡ text)
+
+-- some run with these places has this text, and none has
+abbrev pub Spelt : Counts → List ℕ → Type 0
+Spelt p text = (q : Run) × Spells p text q
+
+abbrev pub Unspelt : Counts → List ℕ → Type 0
+Unspelt p text = (q : Run) → Spells p text q → ⊥
+
+-- so many bytes are enough for the text of a run
+abbrev pub HasRoom : ℕ → Run → Type 0
+HasRoom room r = length (spell r) ≤ room

@@ -5,7 +5,7 @@ use Rattle.arch.specs.declared.condition.Condition.TheVariants.{TooMuch, BadText
 use Rattle.runtext.specs.declared.Counts.{Counts}
 use Rattle.runtext.specs.declared.Refusal.{Refusal}
 use Rattle.runtext.specs.declared.line.Line.{Line}
-use Rattle.runtext.specs.declared.run.Places.{Places}
+use Rattle.runtext.specs.declared.places.Places.{Places}
 use Rattle.runtext.specs.declared.text.Text.{Text}
 use Rattle.runtext.specs.Lines.{kind_of, Sound}
 use Rattle.runtext.specs.Passes.{SamePlaces, Left}

@@ -3,19 +3,23 @@
 
 ghost use Rattle.std.specs.Prelude.{◌≡◌, ◌+◌, ◌≤◌, length, take, IfOk, IfErr, OnErr};
 ghost use Rattle.runtext.specs.Passes.{Filled, one_more};
-ghost use Rattle.runtext.specs.Runs.{Run as RunValue, Spellable, Spells, byte_limit, lent, spell};
-ghost use Rattle.runtext.specs.Verdicts.{Refused};
+ghost use Rattle.runtext.specs.Runs.{HasRoom, Spellable, Unspelt, byte_limit, lent};
+ghost use Rattle.runtext.specs.Verdicts.{Only, Refused};
 ghost use Rattle.runtext.specs.Writing.{ReadsBack, Unwritten, Written};
 
+use arch::call::Call;
 use arch::condition::Condition;
+use arch::record::{BlockKey, Word};
 use line::Line;
-use run::{Places, Run};
+use places::Places;
+use run::Run;
 use scan::{fill, judge};
 use writing::write_for;
 
 mod cut;
 mod line;
 mod number;
+pub mod places;
 pub mod run;
 mod scan;
 mod step;
@@ -48,6 +52,19 @@ pub struct Counts {
 }
 
 impl Counts {
+    // As many as these slices have.
+    pub(crate) fn of(words: &[Word], keys: &[BlockKey], calls: &[Call]) -> Counts
+        ensures words { result.words ≡ length words.now }
+        ensures keys { result.keys ≡ length keys.now }
+        ensures calls { result.calls ≡ length calls.now }
+    {
+        Counts {
+            words: words.len(),
+            keys: keys.len(),
+            calls: calls.len(),
+        }
+    }
+
     // These lines and one more.
     pub(crate) fn one_more(self, line: Line) -> Counts
         requires { self.words + self.keys + self.calls ≤ byte_limit }
@@ -100,10 +117,10 @@ const NO_ROOM: Refusal = Refusal {
 // Puts the one run that has this text into the first places of each sort. Where no run that has
 // places enough has it, nothing is altered.
 pub fn read(text: &[u8], places: &mut Places<'_>) -> Result<Counts, Refusal>
-    ensures accepted { IfOk result (λ n. Filled text.now places.old places.new n) }
-    ensures refused { IfErr result (λ e. Refused (lent places.old) text.now e) }
-    ensures single { IfErr result (λ e. (d : Refusal) → Refused (lent places.old) text.now d → d ≡ e) }
-    ensures complete { OnErr result ((q : RunValue) → Spells (lent places.old) text.now q → ⊥) }
+    ensures accepted { IfOk result (Filled text.now places.old places.new) }
+    ensures refused { IfErr result (Refused (lent places.old) text.now) }
+    ensures single { IfErr result (Only (Refused (lent places.old) text.now)) }
+    ensures complete { OnErr result (Unspelt (lent places.old) text.now) }
     ensures unaltered { OnErr result (places.new ≡ places.old) }
 {
     if text.len() > BYTES {
@@ -116,10 +133,10 @@ pub fn read(text: &[u8], places: &mut Places<'_>) -> Result<Counts, Refusal>
 // Writes the text of a run into the first bytes of a buffer, and says how many those are. Where the
 // run has no text, or none that the buffer has room for, nothing is altered.
 pub fn write(run: &Run<'_>, buffer: &mut [u8]) -> Result<usize, Refusal>
-    ensures written { IfOk result (λ n. Written run.now buffer.old buffer.new n) }
-    ensures refused { IfErr result (λ e. Unwritten (length buffer.old) run.now e) }
-    ensures single { IfErr result (λ e. (d : Refusal) → Unwritten (length buffer.old) run.now d → d ≡ e) }
-    ensures complete { OnErr result (Spellable run.now → length (spell run.now) ≤ length buffer.old → ⊥) }
+    ensures written { IfOk result (Written run.now buffer.old buffer.new) }
+    ensures refused { IfErr result (Unwritten (length buffer.old) run.now) }
+    ensures single { IfErr result (Only (Unwritten (length buffer.old) run.now)) }
+    ensures complete { OnErr result (Spellable run.now → HasRoom (length buffer.old) run.now → ⊥) }
     ensures unaltered { OnErr result (buffer.new ≡ buffer.old) }
     ensures again { IfOk result (λ n. ReadsBack run.now (take n buffer.new)) }
 {

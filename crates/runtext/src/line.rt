@@ -42,27 +42,31 @@ pub(crate) enum Verb {
     Purge,
 }
 
-fn verb_of(call: Call) -> Verb
-    ensures { result ≡ verb_of call }
-{
-    match call {
-        Call::LoadControl { .. } => Verb::LoadControl,
-        Call::LoadAccess { .. } => Verb::LoadAccess,
-        Call::LoadMode { .. } => Verb::LoadMode,
-        Call::SetPrefix { .. } => Verb::SetPrefix,
-        Call::Translate { .. } => Verb::Translate,
-        Call::Put { .. } => Verb::Put,
-        Call::Purge { .. } => Verb::Purge,
+impl From<Call> for Verb {
+    ghost from_gives = { λ c v. v ≡ verb_of c };
+
+    fn from(call: Call) -> Verb {
+        match call {
+            Call::LoadControl { .. } => Verb::LoadControl,
+            Call::LoadAccess { .. } => Verb::LoadAccess,
+            Call::LoadMode { .. } => Verb::LoadMode,
+            Call::SetPrefix { .. } => Verb::SetPrefix,
+            Call::Translate { .. } => Verb::Translate,
+            Call::Put { .. } => Verb::Put,
+            Call::Purge { .. } => Verb::Purge,
+        }
     }
 }
 
-pub(crate) fn kind_of(line: Line) -> Kind
-    ensures { result ≡ kind_of line }
-{
-    match line {
-        Line::Doubleword(_) => Kind::Doubleword,
-        Line::Key(_) => Kind::Key,
-        Line::Call(call) => Kind::Call(verb_of(call)),
+impl From<Line> for Kind {
+    ghost from_gives = { λ l k. k ≡ kind_of l };
+
+    fn from(line: Line) -> Kind {
+        match line {
+            Line::Doubleword(_) => Kind::Doubleword,
+            Line::Key(_) => Kind::Key,
+            Line::Call(call) => Kind::Call(Verb::from(call)),
+        }
     }
 }
 

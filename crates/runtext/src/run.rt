@@ -1,9 +1,6 @@
-// A run as it is lent, and the places for one: doublewords, keys and calls, each sort in a slice.
+// A run as it is lent: its doublewords, its keys and its calls, each sort in a slice.
 ghost use Rattle.std.specs.Prelude.{◌≡◌};
-ghost use Rattle.runtext.specs.Lines.{kind_of};
-ghost use Rattle.runtext.specs.Passes.{PutIn, SamePlaces};
-ghost use Rattle.runtext.specs.Runs.{Within, counts, lent, lines, lines_left, run_in};
-ghost use Rattle.runtext.specs.Verdicts.{Full};
+ghost use Rattle.runtext.specs.Runs.{counts, lines, lines_left};
 
 use crate::Counts;
 use crate::line::Line;
@@ -33,11 +30,7 @@ impl<'a> Run<'a> {
     pub fn counts(&self) -> Counts
         ensures { result ≡ counts self.now }
     {
-        Counts {
-            words: self.words.len(),
-            keys: self.keys.len(),
-            calls: self.calls.len(),
-        }
+        Counts::of(self.words, self.keys, self.calls)
     }
 
     // The lines of its text after the first.
@@ -48,52 +41,6 @@ impl<'a> Run<'a> {
             words: self.words.iter(),
             keys: self.keys.iter(),
             calls: self.calls.iter(),
-        }
-    }
-}
-
-// Places for a run, as they are lent: the first of each sort get what a text says.
-#[derive(Drop)]
-pub struct Places<'a> {
-    pub words: &'a mut [Word],
-    pub keys: &'a mut [BlockKey],
-    pub calls: &'a mut [Call],
-}
-
-impl Places<'_> {
-    // How many there are of each sort.
-    pub fn counts(&self) -> Counts
-        ensures { result ≡ lent self.now }
-    {
-        Counts {
-            words: self.words.len(),
-            keys: self.keys.len(),
-            calls: self.calls.len(),
-        }
-    }
-
-    // The run in the first places, as many of each sort.
-    pub fn run(&self, n: Counts) -> Run<'_>
-        requires { Within n (lent self.now) }
-        ensures { result ≡ run_in self.now n }
-    {
-        Run {
-            words: &self.words[..n.words],
-            keys: &self.keys[..n.keys],
-            calls: &self.calls[..n.calls],
-        }
-    }
-
-    // Puts a line into the first place of its sort that is free.
-    pub(crate) fn put(&mut self, line: Line, found: Counts)
-        requires { Full (lent self.old) found (kind_of line) → ⊥ }
-        ensures put { PutIn line found self.old self.new }
-        ensures same { SamePlaces self.old self.new }
-    {
-        match line {
-            Line::Doubleword(word) => self.words[found.words] = word,
-            Line::Key(key) => self.keys[found.keys] = key,
-            Line::Call(call) => self.calls[found.calls] = call,
         }
     }
 }

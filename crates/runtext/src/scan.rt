@@ -1,17 +1,19 @@
 // The two passes over a text: the first judges it, the second fills the places that are lent.
-ghost use Rattle.std.specs.Prelude.{◌≤◌, length, MatchResult};
+ghost use Rattle.std.specs.Prelude.{◌≤◌, length, IfErr, OnErr, OnOk};
 ghost use Rattle.runtext.specs.Passes.{Filled};
-ghost use Rattle.runtext.specs.Runs.{Run, Spells, lent, byte_limit};
+ghost use Rattle.runtext.specs.Runs.{Spelt, Unspelt, byte_limit, lent};
 ghost use Rattle.runtext.specs.Verdicts.{BadLine};
 
-use crate::run::Places;
+use crate::places::Places;
 use crate::step::{after_header, blame, step};
 use crate::{Counts, NO_LINES, Refusal};
 
 // Whether some run with these places has this text.
 pub(crate) fn judge(text: &[u8], places: Counts) -> Result<(), Refusal>
     requires { length text.now ≤ byte_limit }
-    ensures { MatchResult result (λ _. (q : Run) × Spells places text.now q) (λ e. BadLine places text.now e × ((q : Run) → Spells places text.now q → ⊥)) }
+    ensures spelt { OnOk result (Spelt places text.now) }
+    ensures bad { IfErr result (BadLine places text.now) }
+    ensures complete { OnErr result (Unspelt places text.now) }
 {
     let mut found = NO_LINES;
     let Some(mut rest) = after_header(text) else {
@@ -36,7 +38,7 @@ pub(crate) fn judge(text: &[u8], places: Counts) -> Result<(), Refusal>
 // Puts the run that has this text into the places that are lent.
 pub(crate) fn fill(text: &[u8], places: &mut Places<'_>) -> Counts
     requires short { length text.now ≤ byte_limit }
-    requires accepted { (q : Run) × Spells (lent places.old) text.now q }
+    requires accepted { Spelt (lent places.old) text.now }
     ensures { Filled text.now places.old places.new result }
 {
     let all = places.counts();

@@ -5,7 +5,7 @@ ghost use Rattle.runtext.specs.Numerals.{hexit, numeral};
 ghost use Rattle.runtext.specs.Runs.{spell};
 ghost use Rattle.runtext.specs.Writing.{Adds, Laid};
 
-use crate::line::{LINE_END, Letter, Line, TAB, kind_of};
+use crate::line::{Kind, LINE_END, Letter, Line, TAB};
 use crate::run::Run;
 use arch::call::Call;
 
@@ -104,7 +104,7 @@ impl Text<'_> {
     fn line(&mut self, line: Line)
         ensures { Adds (spell_line line) self.old self.new }
     {
-        self.byte(kind_of(line).letter());
+        self.byte(Kind::from(line).letter());
         self.byte(TAB);
         self.fields(line);
         self.byte(LINE_END);

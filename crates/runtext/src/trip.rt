@@ -1,21 +1,23 @@
 // The round trips, from a text to its run and back, and from a run to its text and back.
 ghost use Rattle.std.specs.Prelude.{◌≡◌, ℕ, ◌≤◌, length, IfOk, IfErr, OnErr, OnOk};
 ghost use Rattle.runtext.specs.Passes.{Filled};
-ghost use Rattle.runtext.specs.Runs.{Readable, Run as RunValue, Spells, lent, spell};
+ghost use Rattle.runtext.specs.Runs.{HasRoom, Readable, Unspelt, lent, spell};
+ghost use Rattle.runtext.specs.Verdicts.{Only};
 ghost use Rattle.runtext.specs.Writing.{RefusedIn, Reopened, Restored, Written};
 
-use crate::run::{Places, Run};
+use crate::places::Places;
+use crate::run::Run;
 use crate::writing::write_for;
 use crate::{Counts, NO_ROOM, Refusal, read, write};
 
 // Reads a text and writes its run out again into a buffer: the same bytes. Where the text is refused
 // or the buffer is shorter, nothing is altered.
 pub fn reopened(text: &[u8], places: &mut Places<'_>, copy: &mut [u8]) -> Result<usize, Refusal>
-    ensures same { IfOk result (λ n. Reopened text.now copy.old copy.new n) }
+    ensures same { IfOk result (Reopened text.now copy.old copy.new) }
     ensures filled { OnOk result ((m : Counts) × Filled text.now places.old places.new m) }
-    ensures refused { IfErr result (λ e. RefusedIn (length copy.old) (lent places.old) text.now e) }
-    ensures single { IfErr result (λ e. (d : Refusal) → RefusedIn (length copy.old) (lent places.old) text.now d → d ≡ e) }
-    ensures complete { OnErr result ((q : RunValue) → Spells (lent places.old) text.now q → length text.now ≤ length copy.old → ⊥) }
+    ensures refused { IfErr result (RefusedIn (length copy.old) (lent places.old) text.now) }
+    ensures single { IfErr result (Only (RefusedIn (length copy.old) (lent places.old) text.now)) }
+    ensures complete { OnErr result (length text.now ≤ length copy.old → Unspelt (lent places.old) text.now) }
     ensures unaltered { OnErr result ((places.new ≡ places.old) × (copy.new ≡ copy.old)) }
 {
     if copy.len() < text.len() {
@@ -32,11 +34,12 @@ pub fn restored(
     buffer: &mut [u8],
     places: &mut Places<'_>,
 ) -> Result<Counts, Refusal>
-    ensures same { IfOk result (λ n. Restored run.now places.old places.new n) }
+    ensures same { IfOk result (Restored run.now places.old places.new) }
     ensures written { OnOk result ((k : ℕ) × Written run.now buffer.old buffer.new k) }
-    ensures refused { IfErr result (λ e. RefusedIn (length buffer.old) (lent places.old) (spell run.now) e) }
-    ensures single { IfErr result (λ e. (d : Refusal) → RefusedIn (length buffer.old) (lent places.old) (spell run.now) d → d ≡ e) }
-    ensures complete { OnErr result (Readable (lent places.old) run.now → length (spell run.now) ≤ length buffer.old → ⊥) }
+    ensures refused { IfErr result (RefusedIn (length buffer.old) (lent places.old) (spell run.now)) }
+    ensures single { IfErr result (Only (RefusedIn (length buffer.old) (lent places.old) (spell run.now))) }
+    ensures complete { OnErr result
+        (Readable (lent places.old) run.now → HasRoom (length buffer.old) run.now → ⊥) }
     ensures unaltered { OnErr result ((buffer.new ≡ buffer.old) × (places.new ≡ places.old)) }
 {
     let n = write_for(run, places.counts(), buffer)?;

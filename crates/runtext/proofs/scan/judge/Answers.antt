@@ -7,7 +7,7 @@ use Rattle.runtext.proofs.scan.judge.Goals as goal
 pub returns-in_default : goal.returns-in_default
 returns-in_default c =
     let told : (x : List ℕ) → header ++ x ≡ c.args.text.now → ⊥ = λ x e. c.in_default.ensures x tt e in
-    (bad_first told c.args.places _ refl c.blame.ensures, λ q h. no_first told q h.1)
+    record { spelt = tt; bad = bad_first told c.args.places _ refl c.blame.ensures; complete = λ q h. no_first told q h.1 }
 
 pub loop-line-init : goal.loop-line-init
 loop-line-init c = (empty, start c.args.places c.args.text.now c.in-Some.rest.now c.in-Some.ensures.1)
@@ -30,4 +30,4 @@ returns c =
     let s = c.loop-line.invariant.1 in
     let some : 0 < length c.loop-line.rest.now = omega (arith, eqb-false _ 0 (sym c.if-is_empty.ensures)) in
     let told = c.in_default-step.ensures in
-    (bad_line s some told _ c.next_line.ensures c.blame-2.ensures, no_run s some told)
+    record { spelt = tt; bad = bad_line s some told _ c.next_line.ensures c.blame-2.ensures; complete = no_run s some told }

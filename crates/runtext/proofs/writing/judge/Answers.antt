@@ -18,7 +18,7 @@ returns-in-Some-fault c =
     let g = c.loop-line.invariant.1 in
     let h = c.in-Some.ensures.steps in
     let f = c.in-Some-fault.ensures in
-    (stopped g h f c.next_line.result c.next_line.ensures, no_text g h f)
+    record { readable = tt; bad = stopped g h f c.next_line.result c.next_line.ensures; complete = no_text g h f }
 
 pub loop-line-preserved : goal.loop-line-preserved
 loop-line-preserved c =
@@ -26,4 +26,4 @@ loop-line-preserved c =
     (add c.loop-line.invariant.0 c.in-Some.line, rw c.one_more-found.ensures (go_further c.loop-line.invariant.1 c.in-Some.ensures.steps c.requires ok.0 ok.1))
 
 pub returns : goal.returns
-returns c = arrived c.loop-line.invariant.1 c.in-None.ensures.steps.0
+returns c = record { readable = arrived c.loop-line.invariant.1 c.in-None.ensures.steps.0; bad = tt; complete = tt }
