@@ -11,15 +11,6 @@ use Rattle.runtext.specs.Numerals.{numeral}
 use Rattle.runtext.specs.Reading.{Lacks, Cut}
 use Rattle.runtext.proofs.Numerals.{numeral_all, numeral_same, hexit_least}
 
-pub head_same : {x y : ℕ} {xs ys : List ℕ} → x ∷ xs ≡ y ∷ ys → x ≡ y
-head_same e = cc
-
-pub tail_same : {x y : ℕ} {xs ys : List ℕ} → x ∷ xs ≡ y ∷ ys → xs ≡ ys
-tail_same e = cc
-
-pub none_some : {A : Type 0} {x : A} → None ≡ Some x → ⊥
-none_some e = let z : ◌≡◌ {A = ℕ} 0 1 = cc in omega arith
-
 -- before the first place of a byte it does not stand, and where it has no place, nowhere
 pub lacks_before : (c : ℕ) (bs : List ℕ) (i : ℕ) → position (λ b. eqb b c) bs ≡ Some i → Lacks c (take i bs)
 lacks_before c bs i e =
@@ -37,25 +28,23 @@ pub lacks_all : (c : ℕ) (bs : List ℕ) → position (λ b. eqb b c) bs ≡ No
 lacks_all c bs e =
     let n = position_or_len (λ b. eqb b c) bs in
     ⊎_elim
-    (λ h. absurd (none_some (sym e ∙ cond-true _ _ _ (lt-ltb n (length bs) h))))
+    (λ h. absurd (cc (sym e ∙ cond-true _ _ _ (lt-ltb n (length bs) h))))
     (λ h. All-from_get_or (λ b. b ≡ c → ⊥) bs 0 (λ k l. eqb-false _ c (fails_before_first (λ b. eqb b c) bs k 0 (omega arith))))
     (cases_lt n (length bs))
 
 -- the first place of a byte is one
 pub cut_same : (c : ℕ) (p q x y : List ℕ) → Lacks c p → Lacks c q → p ++ (c ∷ x) ≡ q ++ (c ∷ y) → (p ≡ q) × (x ≡ y)
-cut_same c [] [] x y lp lq e = (refl, tail_same e)
-cut_same c [] (b ∷ q) x y lp lq e = absurd (lq.0 (sym (head_same e)))
-cut_same c (a ∷ p) [] x y lp lq e = absurd (lp.0 (head_same e))
+cut_same c [] [] x y lp lq e = (refl, cc e)
+cut_same c [] (b ∷ q) x y lp lq e = absurd (lq.0 (sym (cc e)))
+cut_same c (a ∷ p) [] x y lp lq e = absurd (lp.0 (cc e))
 cut_same c (a ∷ p) (b ∷ q) x y lp lq e =
-    let r = cut_same c p q x y lp.1 lq.1 (tail_same e) in
-    ((λ i. head_same e i ∷ r.0 i), r.1)
+    let h : a ≡ b = cc e in
+    let r = cut_same c p q x y lp.1 lq.1 (cc e) in
+    ((λ i. h i ∷ r.0 i), r.1)
 
 pub lacks_none : (c : ℕ) (p x : List ℕ) → Lacks c (p ++ (c ∷ x)) → ⊥
 lacks_none c [] x h = h.0 refl
 lacks_none c (a ∷ p) x h = lacks_none c p x h.1
-
-pub some_same : {A : Type 0} {x y : A} → Some x ≡ Some y → x ≡ y
-some_same e = cc
 
 -- what is cut at the first c, where a lacks c and c follows it
 pub cut_finds : (c : ℕ) (bs front : List ℕ) (o : Option (List ℕ)) (a x : List ℕ) → Lacks c front → Cut c bs front o → Lacks c a → a ++ (c ∷ x) ≡ bs → (a ≡ front) × (o ≡ Some x)

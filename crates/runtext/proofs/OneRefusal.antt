@@ -5,6 +5,7 @@ use Rattle.arch.specs.declared.condition.Condition.TheVariants.{TooMuch}
 use Rattle.std.proofs.lemmas.List.Prefix.{front_rest}
 use Rattle.std.proofs.lemmas.Bool.{ltb-false, ne_eqb, cond-false}
 use Rattle.std.specs.List.{flat_map, AllByRecursion}
+use Rattle.std.proofs.lemmas.Grind.{flat_map-append}
 use Rattle.runtext.specs.declared.Counts.{Counts}
 use Rattle.runtext.specs.declared.Refusal.{Refusal}
 use Rattle.runtext.specs.declared.line.Line.{Line}
@@ -13,7 +14,7 @@ use Rattle.runtext.specs.Reading.{Lacks}
 use Rattle.runtext.specs.Runs.{Run, lines, header, spell, counts, Readable}
 use Rattle.runtext.specs.Verdicts.{Blames, Before, BadLine, Refused, first_field, first_line}
 use Rattle.runtext.proofs.Lines.{spell_lacks}
-use Rattle.runtext.proofs.Runs.{line_same, lines_same, goes, held, joined_append}
+use Rattle.runtext.proofs.Runs.{line_same, lines_same, goes, held}
 use Rattle.runtext.proofs.Sofar.{Sofar, add, empty, start, further, spell_add, spell_empty}
 
 -- of two rows of lines that begin a text one begins the other
@@ -34,7 +35,7 @@ spell_apart q r x y e = ap (drop 6) e
 
 spell_more : (q r : Run) (ns : List Line) → lines q ≡ lines r ++ ns → spell q ≡ spell r ++ flat_map spell_line ns
 unfolding spell
-spell_more q r ns e = ap (λ t. header ++ t) (ap (flat_map spell_line) e ∙ joined_append spell_line (lines r) ns)
+spell_more q r ns e = ap (λ t. header ++ t) (ap (flat_map spell_line) e ∙ flat_map-append spell_line (lines r) ns)
 
 line_is : (p x : List ℕ) → Lacks 10 p → first_line (p ++ (10 ∷ x)) ≡ p ++ (10 ∷ [])
 line_is [] x l = refl

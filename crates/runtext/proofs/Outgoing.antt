@@ -9,7 +9,6 @@ use Rattle.runtext.specs.Passes.{Steps, one_more}
 use Rattle.runtext.specs.Runs.{Run, lines, header, spell, Readable}
 use Rattle.runtext.specs.Verdicts.{Full, Late, Blames, BadLine, no_lines, first_field}
 use Rattle.runtext.specs.Writing.{Faulty}
-use Rattle.runtext.proofs.Cuts.{head_same}
 use Rattle.runtext.proofs.FirstField.{field_stops}
 use Rattle.runtext.proofs.Lines.{letter_same, letter_least}
 use Rattle.runtext.proofs.Runs.{line_same, lines_same, in_order}
@@ -26,7 +25,7 @@ field_is l x =
 
 blames : (p found : Counts) (l : Line) (x : List ℕ) (c : Condition) → Faulty p found l c → Blames p found (first_field (spell_line l ++ x)) c
 blames p found l x c (inl f) = inl (f.0, (kind_of l, sym (field_is l x), f.1))
-blames p found l x c (inr f) = inr (f.0, λ o. f.1 (subst (Full p found) (letter_same o.0 (kind_of l) (head_same (o.1 ∙ field_is l x))) o.2))
+blames p found l x c (inr f) = inr (f.0, λ o. f.1 (subst (Full p found) (letter_same o.0 (kind_of l) (cc (o.1 ∙ field_is l x))) o.2))
 
 -- the lines of a run up to those that are left make up the run q, and may come so where there are these places
 pub record Going (p : Counts) (r : Run) (past left : List Line) (found : Counts) (q : Run) : Type 0 where

@@ -6,6 +6,7 @@ use Rattle.arch.specs.declared.record.BlockKey.{BlockKey}
 use Rattle.arch.specs.declared.record.Word.{Word}
 use Rattle.std.proofs.ByRecursion.{All-append}
 use Rattle.std.specs.List.{flat_map, AllByRecursion}
+use Rattle.std.proofs.lemmas.Grind.{flat_map-append}
 use Rattle.runtext.specs.declared.Counts.{Counts}
 use Rattle.runtext.specs.declared.line.Kind.{Kind}
 use Rattle.runtext.specs.declared.line.Kind.TheVariants as kind
@@ -17,7 +18,7 @@ use Rattle.runtext.specs.Numerals.{numeral}
 use Rattle.runtext.specs.Runs.{Run, lines, spell, counts, Spellable, Readable}
 use Rattle.runtext.specs.Verdicts.{Late, Goes}
 use Rattle.runtext.proofs.ByKind.{by_kind, by_verb}
-use Rattle.runtext.proofs.Cuts.{head_same, tail_same, cut_same, numeral_lacks, two_same}
+use Rattle.runtext.proofs.Cuts.{cut_same, numeral_lacks, two_same}
 use Rattle.runtext.proofs.Lines.{letter_same, access_same, source_same, spell_lacks}
 use Rattle.runtext.proofs.Numerals.{numeral_same}
 
@@ -34,11 +35,11 @@ call_same (call.LoadMode m s k) c e =
 call_same (call.SetPrefix p) c e = by_verb (λ c. SoundCall c → call_fields c ≡ numeral p → c ≡ call.SetPrefix p) verb.SetPrefix (λ q h f. ap call.SetPrefix (numeral_same q p h f)) c e
 call_same (call.Translate a r d) c e =
     by_verb (λ c. SoundCall c → call_fields c ≡ call_fields (call.Translate a r d) → c ≡ call.Translate a r d) verb.Translate (λ b s g h f.
-    let p = access_same b a (head_same f) in
-    let t = two_same s g r d h.0 h.1 (tail_same (tail_same f)) in
+    let p = access_same b a (cc f) in
+    let t = two_same s g r d h.0 h.1 (cc f) in
     λ i. call.Translate (p i) (t.0 i) (t.1 i)) c e
 call_same (call.Put r v) c e = by_verb (λ c. SoundCall c → call_fields c ≡ two r v → c ≡ call.Put r v) verb.Put (λ s w h f. let t = two_same s w r v h.0 h.1 f in λ i. call.Put (t.0 i) (t.1 i)) c e
-call_same (call.Purge s) c e = by_verb (λ c. SoundCall c → call_fields c ≡ call_fields (call.Purge s) → c ≡ call.Purge s) verb.Purge (λ t h f. ap call.Purge (source_same t s (head_same f))) c e
+call_same (call.Purge s) c e = by_verb (λ c. SoundCall c → call_fields c ≡ call_fields (call.Purge s) → c ≡ call.Purge s) verb.Purge (λ t h f. ap call.Purge (source_same t s (cc f))) c e
 
 fields_same : (m l : Line) → kind_of l ≡ kind_of m → Sound l → fields l ≡ fields m → l ≡ m
 fields_same (line.Doubleword w) l e =
@@ -56,7 +57,7 @@ fields_same (line.Call c) l e =
 pub line_same : (l m : Line) (x y : List ℕ) → Sound l → spell_line l ++ x ≡ spell_line m ++ y → (l ≡ m) × (x ≡ y)
 line_same l m x y h e =
     let p = cut_same 10 (spell_fields l) (spell_fields m) x y (spell_lacks l) (spell_lacks m) (sym (append_assoc (spell_fields l) (10 ∷ []) x) ∙ e ∙ append_assoc (spell_fields m) (10 ∷ []) y) in
-    (fields_same m l (letter_same (kind_of l) (kind_of m) (head_same p.0)) h (tail_same (tail_same p.0)), p.1)
+    (fields_same m l (letter_same (kind_of l) (kind_of m) (cc p.0)) h (cc p.0), p.1)
 
 -- lines that spell a text that others begin go on from these
 go_on : (ms ls : List Line) (x : List ℕ) → AllByRecursion Sound ls → flat_map spell_line ls ≡ flat_map spell_line ms ++ x → (ns : List Line) × (ls ≡ ms ++ ns) × (x ≡ flat_map spell_line ns)
@@ -83,10 +84,6 @@ call_in (line.Doubleword w) = []
 call_in (line.Key k) = []
 call_in (line.Call c) = c ∷ []
 
-pub joined_append : {X Y : Type 0} (f : X → List Y) (xs ys : List X) → flat_map f (xs ++ ys) ≡ flat_map f xs ++ flat_map f ys
-joined_append f [] ys = refl
-joined_append f (x ∷ xs) ys = ap (λ t. f x ++ t) (joined_append f xs ys) ∙ sym (append_assoc (f x) (flat_map f xs) (flat_map f ys))
-
 joined_map_all : {X Y : Type 0} (f : X → List Y) (g : Y → X) → ((y : Y) → f (g y) ≡ y ∷ []) → (ys : List Y) → flat_map f (map g ys) ≡ ys
 joined_map_all f g h [] = refl
 joined_map_all f g h (y ∷ ys) = λ i. h y i ++ joined_map_all f g h ys i
@@ -96,7 +93,7 @@ joined_map_none f g h [] = refl
 joined_map_none f g h (y ∷ ys) = λ i. h y i ++ joined_map_none f g h ys i
 
 joined_lines : {Y : Type 0} (f : Line → List Y) (r : Run) → flat_map f (lines r) ≡ flat_map f (map line.Doubleword r.words) ++ (flat_map f (map line.Key r.keys) ++ flat_map f (map line.Call r.calls))
-joined_lines f r = simp joined_append
+joined_lines f r = simp flat_map-append
 
 words_of_lines : (r : Run) → flat_map word_in (lines r) ≡ r.words
 unfolding word_in
@@ -153,7 +150,7 @@ all_mapped P g h (y ∷ ys) = (h y, all_mapped P g h ys)
 
 -- what lines hold of a sort grows with them
 grows : {Y : Type 0} (f : Line → List Y) (ls ms ns : List Line) (z : Line) → ls ≡ ms ++ (z ∷ ns) → length (flat_map f ls) ≡ length (flat_map f ms) + (length (f z) + length (flat_map f ns))
-grows f ls ms ns z e = ap (λ t. length (flat_map f t)) e ∙ simp (joined_append, length-append)
+grows f ls ms ns z e = ap (λ t. length (flat_map f t)) e ∙ simp (flat_map-append, length-append)
 
 apart : (j k : Kind) → (letter j ≡ letter k → ⊥) → j ≡ k → ⊥
 apart j k h e = h (ap letter e)
@@ -178,7 +175,7 @@ in_order q r (line.Key k) zs e =
     (all_mapped P line.Call (λ c. λ e. never c e) q.calls)
     (λ n. n refl) (append_assoc _ (map line.Key q.keys) _ ∙ e) in
     let cs = grows call_in _ (lines r) d.0 (line.Key k) d.1 in
-    let none = joined_append call_in (map line.Doubleword q.words) (map line.Key q.keys) ∙ (λ i. joined_map_none call_in line.Doubleword (λ w. refl) q.words i ++ joined_map_none call_in line.Key (λ k. refl) q.keys i) in
+    let none = flat_map-append call_in (map line.Doubleword q.words) (map line.Key q.keys) ∙ (λ i. joined_map_none call_in line.Doubleword (λ w. refl) q.words i ++ joined_map_none call_in line.Key (λ k. refl) q.keys i) in
     λ f. omega (arith, cs, ap length none, ap length (calls_of_lines r))
   where
     never : (c : Call) → kind.Call (verb_of c) ≡ kind.Key → ⊥

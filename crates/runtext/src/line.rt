@@ -8,6 +8,9 @@ use crate::number::number;
 use arch::call::{Access, Call, SourceName};
 use arch::record::{BlockKey, Word};
 
+// The first line of a run text.
+pub(crate) const FIRST_LINE: &[u8] = b"RUN\t1\n";
+
 pub(crate) const TAB: u8 = 9;
 
 pub(crate) const LINE_END: u8 = 10;

@@ -7,7 +7,7 @@ ghost use Rattle.runtext.specs.Runs.{header};
 ghost use Rattle.runtext.specs.Verdicts.{Full, Late, Blames, first_field};
 
 use crate::cut::cut;
-use crate::line::{Kind, LINE_END, Letter, Line, TAB, line_of, lone};
+use crate::line::{FIRST_LINE, Kind, LINE_END, Letter, Line, TAB, line_of, lone};
 use crate::{Counts, KEYS, WORDS};
 use arch::condition::Condition;
 
@@ -36,12 +36,7 @@ fn late(found: Counts, kind: Kind) -> bool
 pub(crate) fn after_header(text: &[u8]) -> Option<&[u8]>
     ensures { Reads (option_map (λ x. x.now) result) (λ _. Unit {0}) (λ x. header ++ x) text.now }
 {
-    let (line, after) = cut(text, LINE_END);
-    if line == b"RUN\t1".as_slice() {
-        after
-    } else {
-        None
-    }
+    text.strip_prefix(FIRST_LINE)
 }
 
 // Why the line that `rest` begins with is refused.

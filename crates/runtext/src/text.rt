@@ -1,15 +1,13 @@
 // A text on its way out, one byte after another.
-ghost use Rattle.std.specs.Prelude.{◌≡◌, ◌<◌, ◌≤◌, [], ◌∷◌, min, length};
+ghost use Rattle.std.specs.Prelude.{◌≡◌, ◌<◌, [], ◌∷◌, min, length};
 ghost use Rattle.runtext.specs.Lines.{two, call_fields, fields, spell_line};
 ghost use Rattle.runtext.specs.Numerals.{hexit, numeral};
-ghost use Rattle.runtext.specs.Runs.{spell};
+ghost use Rattle.runtext.specs.Runs.{HasRoom, spell};
 ghost use Rattle.runtext.specs.Writing.{Adds, Laid};
 
-use crate::line::{Kind, LINE_END, Letter, Line, TAB};
+use crate::line::{FIRST_LINE, Kind, LINE_END, Letter, Line, TAB};
 use crate::run::Run;
 use arch::call::Call;
-
-const FIRST_LINE: &[u8] = b"RUN\t1\n";
 
 fn digit_of(d: u8) -> u8
     requires { d < 16 }
@@ -135,7 +133,7 @@ pub(crate) fn size(run: &Run<'_>) -> usize
 
 // Lays the text of a run at the start of a buffer, and says where it ends.
 pub(crate) fn lay(run: &Run<'_>, buffer: &mut [u8]) -> usize
-    requires { length (spell run.now) ≤ length buffer.old }
+    requires { HasRoom (length buffer.old) run.now }
     ensures { Laid 0 (spell run.now) buffer.old buffer.new result }
 {
     let mut text = Text { buffer, length: 0 };

@@ -1,8 +1,8 @@
 use Rattle.std.proofs.Common.{[], ◌∷◌, ◌++◌, sym, ap, ◌∙◌, append_assoc, append-nil}
+use Rattle.std.proofs.lemmas.Grind.{flat_map-append}
 use Rattle.runtext.specs.Lines.{spell_line}
 use Rattle.runtext.specs.Runs.{lines_left, spell}
 use Rattle.runtext.proofs.Adding.{adds_more}
-use Rattle.runtext.proofs.Runs.{joined_append}
 use Rattle.runtext.proofs.text.Text.run.Goals as goal
 
 pub loop-line-preserved : goal.loop-line-preserved
@@ -11,7 +11,7 @@ loop-line-preserved c =
     let past = c.loop-line.yielded in
     record {
       all = append_assoc past (l ∷ []) (lines_left c.next.new.self) ∙ ap (λ ls. past ++ ls) (sym c.in-Some.ensures.steps) ∙ c.loop-line.invariant.all;
-      added = rw (joined_append spell_line past (l ∷ []), append-nil (spell_line l)) (adds_more c.loop-line.invariant.added c.line.ensures);
+      added = rw (flat_map-append spell_line past (l ∷ []), append-nil (spell_line l)) (adds_more c.loop-line.invariant.added c.line.ensures);
     }
 
 pub returns : goal.returns
