@@ -1,16 +1,15 @@
 // The reader and the writer of run texts: what a run is made of, in lines of fields.
 #![tactic(auto)]
 
-ghost use Rattle.std.specs.Prelude.{◌≡◌, ◌+◌, ◌≤◌, length, take, IfOk, IfErr, OnErr};
-ghost use Rattle.runtext.specs.Passes.{Filled, one_more};
-ghost use Rattle.runtext.specs.Runs.{HasRoom, Spellable, Unspelt, byte_limit, lent};
+ghost use Rattle.std.specs.Prelude.{◌≡◌, length, take, IfOk, IfErr, OnErr};
+ghost use Rattle.runtext.specs.Passes.{Filled};
+ghost use Rattle.runtext.specs.Runs.{HasRoom, Spellable, Unspelt, lent};
 ghost use Rattle.runtext.specs.Verdicts.{Only, Refused};
 ghost use Rattle.runtext.specs.Writing.{ReadsBack, Unwritten, Written};
 
 use arch::call::Call;
 use arch::condition::Condition;
 use arch::record::{BlockKey, Word};
-use line::Line;
 use places::Places;
 use run::Run;
 use scan::{fill, judge};
@@ -20,9 +19,9 @@ mod cut;
 mod line;
 mod number;
 pub mod places;
+mod progress;
 pub mod run;
 mod scan;
-mod step;
 mod text;
 pub mod trip;
 mod writing;
@@ -63,35 +62,6 @@ impl Counts {
             keys: keys.len(),
             calls: calls.len(),
         }
-    }
-
-    // These lines and one more.
-    pub(crate) fn one_more(self, line: Line) -> Counts
-        requires { self.words + self.keys + self.calls ≤ byte_limit }
-        ensures { result ≡ one_more self line }
-    {
-        match line {
-            Line::Doubleword(_) => Counts {
-                words: self.words + 1,
-                ..self
-            },
-            Line::Key(_) => Counts {
-                keys: self.keys + 1,
-                ..self
-            },
-            Line::Call(_) => Counts {
-                calls: self.calls + 1,
-                ..self
-            },
-        }
-    }
-
-    // The number of the line that follows the header and these lines.
-    pub(crate) fn next_line(self) -> usize
-        requires { self.words + self.keys + self.calls ≤ byte_limit }
-        ensures { result ≡ self.words + self.keys + self.calls + 2 }
-    {
-        self.words + self.keys + self.calls + 2
     }
 }
 

@@ -1,12 +1,22 @@
 // The two passes over a text: the first judges it, the second fills the places that are lent.
-ghost use Rattle.std.specs.Prelude.{◌≤◌, length, IfErr, OnErr, OnOk};
+ghost use Rattle.std.specs.Prelude.{◌++◌, ◌≤◌, length, IfErr, OnErr, OnOk};
+ghost use Rattle.std.specs.Option.{option_map};
 ghost use Rattle.runtext.specs.Passes.{Filled};
-ghost use Rattle.runtext.specs.Runs.{Spelt, Unspelt, byte_limit, lent};
+ghost use Rattle.runtext.specs.Reading.{Reads};
+ghost use Rattle.runtext.specs.Runs.{Spelt, Unspelt, byte_limit, header, lent};
 ghost use Rattle.runtext.specs.Verdicts.{BadLine};
 
+use crate::line::FIRST_LINE;
 use crate::places::Places;
-use crate::step::{after_header, blame, step};
+use crate::progress::Progress;
 use crate::{Counts, NO_LINES, Refusal};
+
+// What follows the first line of a run text.
+fn after_header(text: &[u8]) -> Option<&[u8]>
+    ensures { Reads (option_map (λ x. x.now) result) (λ _. Unit {0}) (λ x. header ++ x) text.now }
+{
+    text.strip_prefix(FIRST_LINE)
+}
 
 // Whether some run with these places has this text.
 pub(crate) fn judge(text: &[u8], places: Counts) -> Result<(), Refusal>
@@ -15,23 +25,26 @@ pub(crate) fn judge(text: &[u8], places: Counts) -> Result<(), Refusal>
     ensures bad { IfErr result (BadLine places text.now) }
     ensures complete { OnErr result (Unspelt places text.now) }
 {
-    let mut found = NO_LINES;
+    let mut so_far = Progress {
+        places,
+        found: NO_LINES,
+    };
     let Some(mut rest) = after_header(text) else {
         return Err(Refusal {
-            condition: blame(text, places, found),
+            condition: so_far.blame(text),
             line: 1,
         });
     };
-    while let Some((line, after)) = step(rest, places, found) {
-        found = found.one_more(line);
+    while let Some((line, after)) = so_far.step(rest) {
+        so_far = so_far.and(line);
         rest = after;
     }
     if rest.is_empty() {
         return Ok(());
     }
     Err(Refusal {
-        condition: blame(rest, places, found),
-        line: found.next_line(),
+        condition: so_far.blame(rest),
+        line: so_far.next_line(),
     })
 }
 
@@ -41,15 +54,17 @@ pub(crate) fn fill(text: &[u8], places: &mut Places<'_>) -> Counts
     requires accepted { Spelt (lent places.old) text.now }
     ensures { Filled text.now places.old places.new result }
 {
-    let all = places.counts();
-    let mut found = NO_LINES;
-    let Some(mut rest) = after_header(text) else {
-        return found;
+    let mut so_far = Progress {
+        places: places.counts(),
+        found: NO_LINES,
     };
-    while let Some((line, after)) = step(rest, all, found) {
-        places.put(line, found);
-        found = found.one_more(line);
+    let Some(mut rest) = after_header(text) else {
+        return so_far.found;
+    };
+    while let Some((line, after)) = so_far.step(rest) {
+        places.put(line, so_far.found);
+        so_far = so_far.and(line);
         rest = after;
     }
-    found
+    so_far.found
 }

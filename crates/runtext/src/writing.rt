@@ -1,30 +1,13 @@
 // A run on its way out: it is judged, and then its text is laid into a buffer.
-ghost use Rattle.std.specs.Prelude.{◌≡◌, length, IfOk, IfErr, MatchOption, OnErr, OnOk};
-ghost use Rattle.runtext.specs.Lines.{kind_of, Sound};
+ghost use Rattle.std.specs.Prelude.{◌≡◌, length, IfOk, IfErr, OnErr, OnOk};
 ghost use Rattle.runtext.specs.Runs.{HasRoom, Readable, byte_limit, spell};
-ghost use Rattle.runtext.specs.Verdicts.{BadLine, Full, Only};
-ghost use Rattle.runtext.specs.Writing.{Faulty, RefusedIn, Written};
+ghost use Rattle.runtext.specs.Verdicts.{BadLine, Only};
+ghost use Rattle.runtext.specs.Writing.{RefusedIn, Written};
 
-use crate::line::{Kind, Line, sound};
+use crate::progress::Progress;
 use crate::run::Run;
-use crate::step::full;
 use crate::text::{lay, size};
 use crate::{BYTES, Counts, NO_LINES, NO_ROOM, Refusal};
-use arch::condition::Condition;
-
-// Why a line may not come after those found, if so.
-fn fault(places: Counts, found: Counts, line: Line) -> Option<Condition>
-    ensures { MatchOption result (Sound line × (Full places found (kind_of line) → ⊥))
-        (Faulty places found line) }
-{
-    if full(places, found, Kind::from(line)) {
-        Some(Condition::TooMuch)
-    } else if sound(line) {
-        None
-    } else {
-        Some(Condition::BadText)
-    }
-}
 
 // Whether a run has a text that a reader with these places accepts, where it is no longer than a
 // text may be.
@@ -34,15 +17,18 @@ fn judge(run: &Run<'_>, places: Counts) -> Result<(), Refusal>
     ensures bad { IfErr result (BadLine places (spell run.now)) }
     ensures complete { OnErr result (Readable places run.now → ⊥) }
 {
-    let mut found = NO_LINES;
+    let mut so_far = Progress {
+        places,
+        found: NO_LINES,
+    };
     for line in run.lines() {
-        if let Some(condition) = fault(places, found, line) {
+        if let Some(condition) = so_far.fault(line) {
             return Err(Refusal {
                 condition,
-                line: found.next_line(),
+                line: so_far.next_line(),
             });
         }
-        found = found.one_more(line);
+        so_far = so_far.and(line);
     }
     Ok(())
 }

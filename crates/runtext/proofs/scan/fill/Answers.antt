@@ -1,7 +1,7 @@
 use Rattle.std.proofs.Common.{◌≡◌, ℕ, List, ◌++◌, arith}
 use Rattle.runtext.specs.Runs.{header}
 use Rattle.runtext.proofs.Sofar.{few, no_first}
-use Rattle.runtext.proofs.Filling.{fill_start, fill_more, fill_done}
+use Rattle.runtext.proofs.Filling.{fill_start, fill_more, fill_done, room}
 use Rattle.runtext.proofs.scan.fill.Goals as goal
 
 pub returns-in_default : goal.returns-in_default
@@ -10,15 +10,19 @@ returns-in_default c =
     absurd (no_first told c.requires.accepted.0 c.requires.accepted.1.1)
 
 pub loop-line-init : goal.loop-line-init
-loop-line-init c = fill_start c.in-Some.rest.now c.in-Some.ensures.1
+loop-line-init c = record { places = c.counts.ensures; filled = fill_start c.in-Some.rest.now c.in-Some.ensures.1 }
 
-pub one_more-found-requires : goal.one_more-found-requires
-one_more-found-requires c = omega (arith, few _ _ _ _ _ c.loop-line.invariant.sofar, c.requires.short)
+pub put-requires : goal.put-requires
+put-requires c = room c.loop-line.invariant.filled c.in-Some-step.line (rw c.loop-line.invariant.places at c.in-Some-step.ensures.0.1)
+
+pub and-so_far-requires : goal.and-so_far-requires
+and-so_far-requires c = omega (arith, few _ _ _ _ _ c.loop-line.invariant.filled.sofar, c.requires.short)
 
 pub loop-line-preserved : goal.loop-line-preserved
 loop-line-preserved c =
-    let told = c.in-Some-step.ensures in
-    rw c.one_more-found.ensures (fill_more c.loop-line.invariant c.in-Some-step.line c.in-Some-step.after.now c.put.new.self c.requires.short told.0.0 (rw c.counts-all.ensures at told.0.1) told.1 c.put.ensures.put c.put.ensures.same)
+    let i = c.loop-line.invariant in
+    let told = rw i.places at c.in-Some-step.ensures in
+    rw c.and-so_far.ensures (record { places = i.places; filled = fill_more i.filled c.in-Some-step.line c.in-Some-step.after.now c.put.new.self c.requires.short told.0.0 told.0.1 told.1 c.put.ensures.put c.put.ensures.same })
 
 pub returns : goal.returns
-returns c = fill_done c.loop-line.invariant c.requires.accepted.0 c.requires.accepted.1 (rw c.counts-all.ensures at c.in_default-step.ensures)
+returns c = fill_done c.loop-line.invariant.filled c.requires.accepted.0 c.requires.accepted.1 (rw c.loop-line.invariant.places at c.in_default-step.ensures)

@@ -1,7 +1,7 @@
 use Rattle.std.proofs.Common.{refl, ◌∙◌, inr}
 use Rattle.runtext.specs.Lines.{letter}
 use Rattle.runtext.proofs.FirstField.{field_found}
-use Rattle.runtext.proofs.step.blame.Goals as goal
+use Rattle.runtext.proofs.progress.Progress.blame.Goals as goal
 
 pub returns-in_default : goal.returns-in_default
 returns-in_default c =

@@ -2,7 +2,7 @@ use Rattle.std.proofs.Common.{sym, ap, ◌∙◌}
 use Rattle.std.specs.Option.{option_map}
 use Rattle.runtext.specs.Lines.{letter, kind_of}
 use Rattle.runtext.proofs.Lines.{letter_same, parted}
-use Rattle.runtext.proofs.step.step.Goals as goal
+use Rattle.runtext.proofs.progress.Progress.step.Goals as goal
 
 pub returns-in_err-letter : goal.returns-in_err-letter
 returns-in_err-letter c = rw c.from_residual.ensures (λ x v e.
