@@ -57,6 +57,10 @@ cut_finds c bs front (Some after) a x lf cut la e =
 pub numeral_lacks : (c n : ℕ) → c < 48 → Lacks c (numeral n)
 numeral_lacks c n small = numeral_all (λ b. b ≡ c → ⊥) (λ d l e. omega (arith, hexit_least d)) n
 
+-- a field that is a number, and what follows it
+pub number_cut : (bs front : List ℕ) (o : Option (List ℕ)) (n : ℕ) (x : List ℕ) → Lacks 9 front → Cut 9 bs front o → numeral n ++ (9 ∷ x) ≡ bs → (numeral n ≡ front) × (o ≡ Some x)
+number_cut bs front o n x l d e = cut_finds 9 bs front o (numeral n) x l d (numeral_lacks 9 n (omega arith)) e
+
 pub two_same : (k l m n : ℕ) → Number k → Number l → two k l ≡ two m n → (k ≡ m) × (l ≡ n)
 two_same k l m n hk hl e =
     let r = cut_same 9 (numeral k) (numeral m) (numeral l) (numeral n) (numeral_lacks 9 k (omega arith)) (numeral_lacks 9 m (omega arith)) e in

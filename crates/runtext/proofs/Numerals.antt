@@ -1,15 +1,16 @@
 -- Laws of the numerals of a run text. Assumes nothing.
-use Rattle.std.proofs.Common.{◌≡◌, ℕ, zero, suc, ◌+◌, ◌*◌, ◌/◌, ◌%◌, ◌^◌, ◌<◌, ◌≤◌, Bool, true, false, cond, eqb, List, [], ◌∷◌, ◌++◌, map, length, get_or, drop, sym, refl, ap, ◌∙◌, ⊎_elim, append_assoc, append-nil, pow-suc, add-one, arith}
+use Rattle.std.proofs.Common.{◌≡◌, ℕ, zero, suc, ◌+◌, ◌*◌, ◌/◌, ◌%◌, ◌^◌, ◌<◌, ◌≤◌, Bool, true, false, cond, eqb, List, [], ◌∷◌, ◌++◌, map, length, get_or, sym, refl, ap, ◌∙◌, ⊎_elim, append_assoc, append-nil, pow-suc, add-one, arith}
 use native.Mathlib.Nat.{pow-le-pow_right}
 use lib.ListN.{length-map}
-use Rattle.std.proofs.lemmas.Int.Digits.{digits_of_step, length-digits_of-le, all_below_base_digits_of, first_digits_of, same_from_digits_of}
-use Rattle.std.proofs.lemmas.Fmt.{hex_one_digit}
+use Rattle.std.proofs.lemmas.Int.Digits.{digits_of_step, length-digits_of-le, first_digits_of}
+use Rattle.std.proofs.lemmas.Fmt.{hex_one_digit, digits_is_IsNumeral}
+use Rattle.std.specs.Str.Parse.{digits_value}
 use Rattle.std.proofs.ByRecursion.{All-get_or}
 use Rattle.std.proofs.lemmas.List.{get_or-map, map_push}
 use Rattle.std.proofs.lemmas.Bool.{cases_eq, cases_lt, cond-true, cond-false, eq-eqb, ne_eqb}
 use Rattle.std.proofs.lemmas.Bool.Decides.{nat_tests}
 use Rattle.std.specs.Fmt.{digits, digits_onto}
-use Rattle.std.specs.Int.Digits.{digits_of, AllBelowBase}
+use Rattle.std.specs.Int.Digits.{digits_of}
 use Rattle.std.specs.List.{AllByRecursion}
 use Rattle.runtext.specs.Lines.{Number}
 use Rattle.runtext.specs.Numerals.{hexit, numeral}
@@ -19,9 +20,6 @@ hexit_least d = grind (arith, nat_tests)
 
 pub hexit_zero : (d : ℕ) → hexit d ≡ 48 → d ≡ 0
 hexit_zero d e = grind (arith, nat_tests)
-
-pub hexit_same : (c d : ℕ) → c < 16 → d < 16 → hexit c ≡ hexit d → c ≡ d
-hexit_same c d hc hd e = grind (arith, nat_tests)
 
 -- the digits that are put before acc, by the list of a number's digits
 onto : (k n : ℕ) (acc : List ℕ) → 0 < n → n < 16 ^ k → digits_onto k 16 false n acc ≡ map hexit (digits_of 16 n) ++ acc
@@ -122,27 +120,14 @@ lone [] h = absurd (omega arith)
 lone (b ∷ []) h = refl
 lone (b ∷ c ∷ bs) h = absurd (omega arith)
 
-map_same : (ds es : List ℕ) → AllBelowBase 16 ds → AllBelowBase 16 es → map hexit ds ≡ map hexit es → ds ≡ es
-map_same [] [] u v e = refl
-map_same [] (y ∷ es) u v e = absurd (omega (arith, ap length e))
-map_same (x ∷ ds) [] u v e = absurd (omega (arith, ap length e))
-map_same (x ∷ ds) (y ∷ es) u v e =
-    let h : hexit x ≡ hexit y = ap (λ l. get_or l 0 0) e in
-    let t : map hexit ds ≡ map hexit es = ap (drop 1) e in
-    let p = hexit_same x y u.0 v.0 h in
-    let q = map_same ds es u.1 v.1 t in
-    λ i. p i ∷ q i
-
 -- a numeral of 64 bits is that of one number
 pub numeral_same : (m n : ℕ) → Number m → numeral m ≡ numeral n → m ≡ n
-numeral_same m n h e = ⊎_elim (λ k. within m n h k e) (λ k. absurd (omega (arith, numeral_long n k, numeral_short m h, ap length e))) (cases_lt n (2 ^ 64))
-  where
-    within : (m n : ℕ) → Number m → Number n → numeral m ≡ numeral n → m ≡ n
-    within zero n h k e = sym (numeral_lead n k (ap (λ l. get_or l 0 0) (sym e ∙ numeral_zero)))
-    within (suc m) zero h k e = numeral_lead (suc m) h (ap (λ l. get_or l 0 0) (e ∙ numeral_zero))
-    within (suc m) (suc n) h k e =
-        same_from_digits_of 16 (suc m) (suc n) (omega arith)
-        (map_same _ _ (all_below_base_digits_of 16 (suc m) (omega arith)) (all_below_base_digits_of 16 (suc n) (omega arith)) (sym (numeral_positive (suc m) h (omega arith)) ∙ e ∙ numeral_positive (suc n) k (omega arith)))
+numeral_same m n h e =
+    let value = λ (k : ℕ) (small : Number k). (digits_is_IsNumeral 16 false (omega arith) (omega arith) k (omega arith)).1 in
+    ⊎_elim
+    (λ k. sym (value m h) ∙ ap (digits_value 16) e ∙ value n k)
+    (λ k. absurd (omega (arith, numeral_long n k, numeral_short m h, ap length e)))
+    (cases_lt n (2 ^ 64))
 
 -- a numeral by its last digit
 pub numeral_digit : (n : ℕ) → n < 16 → numeral n ≡ hexit n ∷ []
