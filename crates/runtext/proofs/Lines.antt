@@ -1,7 +1,5 @@
 -- The lines of a run text can be told apart, and where they end. Assumes nothing.
-use Rattle.std.proofs.Common.{◌≡◌, ℕ, ◌≤◌, cond, eqb, List, [], ◌∷◌, ◌++◌, Some, Option, sym, refl, ap, ◌∙◌, append_assoc, arith, None}
-use Rattle.std.specs.Borrow.{Bor}
-use Rattle.std.specs.Option.{option_map, MatchOption}
+use Rattle.std.proofs.Common.{◌≡◌, ℕ, ◌≤◌, cond, eqb, List, [], ◌∷◌, ◌++◌, Some, Option, sym, refl, ap, ◌∙◌, append_assoc, arith}
 use Rattle.arch.specs.declared.call.Access.{Access}
 use Rattle.arch.specs.declared.call.Access.TheVariants.{Fetch, Store}
 use Rattle.arch.specs.declared.call.Call.{Call}
@@ -16,8 +14,7 @@ use Rattle.runtext.specs.declared.line.Line.TheVariants as line
 use Rattle.runtext.specs.declared.line.Verb.TheVariants as verb
 use Rattle.runtext.specs.Lines.{letter, access_letter, source_letter, two, call_fields, fields, kind_of, spell_fields, spell_line}
 use Rattle.runtext.specs.Numerals.{numeral}
-use Rattle.runtext.specs.Reading.{Reads, Lacks, Cut}
-use Rattle.runtext.specs.Runs.{header}
+use Rattle.runtext.specs.Reading.{Lacks, Cut}
 use Rattle.runtext.proofs.Cuts.{cut_finds, numeral_lacks}
 
 -- letters name one thing each
@@ -110,8 +107,3 @@ title = 82 ∷ 85 ∷ 78 ∷ 9 ∷ 49 ∷ []
 
 pub title_lacks : Lacks 10 title
 title_lacks = (λ e. omega arith, (λ e. omega arith, (λ e. omega arith, (λ e. omega arith, (λ e. omega arith, tt)))))
-
--- what follows the first line, if a text begins with it
-pub after_first : (text : List ℕ) (o : Option (Bor (List ℕ))) → MatchOption o ((x : List ℕ) → text ≡ header ++ x → ⊥) (λ x. text ≡ header ++ x.now) → Reads (option_map (λ x. x.now) o) (λ _. Unit {0}) (λ x. header ++ x) text
-after_first text None h = λ x _ e. h x (sym e)
-after_first text (Some x) h = (tt, sym h)

@@ -1,7 +1,7 @@
 use Rattle.std.proofs.Common.{◌≡◌, ℕ, List, ◌++◌, arith}
 use Rattle.runtext.specs.Runs.{header}
 use Rattle.runtext.proofs.Sofar.{few, no_first}
-use Rattle.runtext.proofs.Filling.{fill_start, fill_more, fill_done, room}
+use Rattle.runtext.proofs.Filling.{fill_start, fill_more, fill_done}
 use Rattle.runtext.proofs.scan.fill.Goals as goal
 
 pub returns-in_default : goal.returns-in_default
@@ -11,9 +11,6 @@ returns-in_default c =
 
 pub loop-line-init : goal.loop-line-init
 loop-line-init c = record { places = c.counts.ensures; filled = fill_start c.in-Some.rest.now c.in-Some.ensures.1 }
-
-pub put-requires : goal.put-requires
-put-requires c = room c.loop-line.invariant.filled c.in-Some-step.line (rw c.loop-line.invariant.places at c.in-Some-step.ensures.0.1)
 
 pub and-so_far-requires : goal.and-so_far-requires
 and-so_far-requires c = omega (arith, few _ _ _ _ _ c.loop-line.invariant.filled.sofar, c.requires.short)
