@@ -45,7 +45,7 @@ line_is (b ∷ p) x l = ap (λ t. b ∷ t) (cond-false (eqb b 10) [] (first_line
 passes : (p : Counts) (text : List ℕ) (r q : Run) (rest rest' : List ℕ) (n : Line) (ns : List Line) → length text ≤ 65536 → Readable p r → Readable p q → spell r ++ rest ≡ text → spell q ++ rest' ≡ text → lines q ≡ lines r ++ (n ∷ ns) → ((k : Run) → Readable p k → spell k ≡ spell r ++ first_line rest → ⊥) → ⊥
 passes p text r q rest rest' n ns short hr hq sr sq e breaks =
     let g = goes p q r n ns hq e in
-    let ok = held (lines r) n ns (subst (AllByRecursion Sound) e hq.spellable.sound) in
+    let ok = held Sound (lines r) n ns (subst (AllByRecursion Sound) e hq.spellable.sound) in
     let after : List ℕ = flat_map spell_line ns ++ rest' in
     let here : spell r ++ (spell_line n ++ after) ≡ text =
     ap (λ t. spell r ++ t) (sym (append_assoc (spell_line n) (flat_map spell_line ns) rest')) ∙ sym (append_assoc (spell r) (flat_map spell_line (n ∷ ns)) rest') ∙ ap (λ t. t ++ rest') (sym (spell_more q r (n ∷ ns) e)) ∙ sq in

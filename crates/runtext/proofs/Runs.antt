@@ -123,26 +123,19 @@ lines_same q r e = λ i. record {
   calls = (sym (calls_of_lines q) ∙ ap (flat_map call_in) e ∙ calls_of_lines r) i;
 }
 
+-- what holds of each line holds of one
+pub held : (P : Line → Type 0) (ls : List Line) (z : Line) (zs : List Line) → AllByRecursion P (ls ++ (z ∷ zs)) → P z
+held P [] z zs a = a.0
+held P (l ∷ ls) z zs a = held P ls z zs a.1
+
 -- a line of none of these in the second part of a list stands in the first
 in_front : (P : Line → Type 0) (xs ys as' bs : List Line) (z : Line) → AllByRecursion P ys → (P z → ⊥) → xs ++ ys ≡ as' ++ (z ∷ bs) → (ds : List Line) × (xs ≡ as' ++ (z ∷ ds))
-in_front P [] ys as' bs z h n e = absurd (n (holds as' (subst (AllByRecursion P) e h)))
-  where
-    holds : (cs : List Line) → AllByRecursion P (cs ++ (z ∷ bs)) → P z
-    holds [] h = h.0
-    holds (c ∷ cs) h = holds cs h.1
-in_front P (x ∷ xs) ys [] bs z h n e = (xs, λ i. first e i ∷ xs)
-  where
-    first : x ∷ (xs ++ ys) ≡ z ∷ bs → x ≡ z
-    first e = cc
+in_front P [] ys as' bs z h n e = absurd (n (held P as' z bs (subst (AllByRecursion P) e h)))
+in_front P (x ∷ xs) ys [] bs z h n e = let same : x ≡ z = cc in (xs, λ i. same i ∷ xs)
 in_front P (x ∷ xs) ys (a ∷ as') bs z h n e =
-    let d = in_front P xs ys as' bs z h n (rest e) in
-    (d.0, λ i. first e i ∷ d.1 i)
-  where
-    first : x ∷ (xs ++ ys) ≡ a ∷ (as' ++ (z ∷ bs)) → x ≡ a
-    first e = cc
-
-    rest : x ∷ (xs ++ ys) ≡ a ∷ (as' ++ (z ∷ bs)) → xs ++ ys ≡ as' ++ (z ∷ bs)
-    rest e = cc
+    let same : x ≡ a = cc in
+    let d = in_front P xs ys as' bs z h n (cc) in
+    (d.0, λ i. same i ∷ d.1 i)
 
 all_mapped : {Y : Type 0} (P : Line → Type 0) (g : Y → Line) → ((y : Y) → P (g y)) → (ys : List Y) → AllByRecursion P (map g ys)
 all_mapped P g h [] = tt
@@ -200,11 +193,6 @@ run_goes_on : (q r : Run) (x : List ℕ) → Spellable q → spell q ≡ spell r
 unfolding spell
 run_goes_on q r x h e = go_on (lines r) (lines q) x h.sound (ap (drop 6) e)
 
--- what holds of each line holds of one
-pub held : (ls : List Line) (z : Line) (zs : List Line) → AllByRecursion Sound (ls ++ (z ∷ zs)) → Sound z
-held [] z zs a = a.0
-held (l ∷ ls) z zs a = held ls z zs a.1
-
 pub next_line : (p : Counts) (q r : Run) (x : List ℕ) → Readable p q → spell q ≡ spell r ++ x → (x ≡ []) ⊎ ((l : Line) × (after : List ℕ) × Sound l × Goes p (counts r) (kind_of l) × (spell_line l ++ after ≡ x))
 next_line p q r x h e =
     let n = run_goes_on q r x h.spellable e in
@@ -212,7 +200,7 @@ next_line p q r x h e =
   where
     by_lines : (ns : List Line) → lines q ≡ lines r ++ ns → x ≡ flat_map spell_line ns → (x ≡ []) ⊎ ((l : Line) × (after : List ℕ) × Sound l × Goes p (counts r) (kind_of l) × (spell_line l ++ after ≡ x))
     by_lines [] a b = inl b
-    by_lines (z ∷ zs) a b = inr (z, flat_map spell_line zs, held (lines r) z zs (subst (AllByRecursion Sound) a h.spellable.sound), goes p q r z zs h a, sym b)
+    by_lines (z ∷ zs) a b = inr (z, flat_map spell_line zs, held Sound (lines r) z zs (subst (AllByRecursion Sound) a h.spellable.sound), goes p q r z zs h a, sym b)
 
 -- a text says one run
 pub text_same : (q r : Run) → Spellable q → spell q ≡ spell r → q ≡ r
