@@ -22,7 +22,6 @@ use Rattle.machine.specs.declared.request.Outcome.{Outcome}
 use Rattle.machine.specs.declared.request.Outcome.TheVariants as outcome
 use Rattle.machine.specs.declared.request.Request.{Request}
 use Rattle.machine.specs.declared.request.Request.TheVariants as request
-use Rattle.machine.specs.declared.sources.Operand.{Operand}
 use Rattle.machine.specs.declared.sources.Sources.{Sources}
 use Rattle.machine.specs.Calls.{Translating, translates, fetches, stores, stored_word}
 use Rattle.machine.specs.Puts.{put_answer, put_of, after_puts_under}
