@@ -26,8 +26,7 @@ mod text;
 pub mod trip;
 mod writing;
 
-// THE LIMITS OF A RUN TEXT. A text past one of them is refused; with as many places of each sort as
-// here, no text is refused for want of a place.
+// The limits of a run text. With as many places of each sort as here, no text lacks one.
 
 // The most bytes that a text has.
 pub const BYTES: usize = 65536;
@@ -38,8 +37,7 @@ pub const WORDS: usize = 1024;
 // The most block keys that a run with a text has.
 pub const KEYS: usize = 256;
 
-// As many calls as a text has bytes for: a call's line has four bytes or more. No other limit is
-// set to them.
+// More calls than any text has: a call's line has four bytes or more. They have no limit of their own.
 pub const CALLS: usize = BYTES / 4;
 
 // How many doublewords, keys and calls there are, or places for them.

@@ -11,7 +11,7 @@ use crate::places::Places;
 use crate::progress::Progress;
 use crate::{Counts, NO_LINES, Refusal};
 
-// What follows the first line of a run text.
+// What follows the first line of a run text, where a text begins with it.
 fn after_header(text: &[u8]) -> Option<&[u8]>
     ensures { Reads (option_map (λ x. x.now) result) (λ _. Unit {0}) (λ x. header ++ x) text.now }
 {

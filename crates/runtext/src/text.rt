@@ -9,6 +9,7 @@ use crate::line::{FIRST_LINE, Kind, LINE_END, Letter, Line, TAB};
 use crate::run::Run;
 use arch::call::Call;
 
+// As the library's `from_digit`, which answers an Option, with no `None` to rule out.
 fn digit_of(d: u8) -> u8
     requires { d < 16 }
     ensures { result ≡ hexit d }
