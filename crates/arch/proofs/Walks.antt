@@ -1,7 +1,6 @@
 -- Laws of walks and of their steps.
 use Rattle.std.proofs.Common.{◌≡◌, ℕ, ◌+◌, ◌≤◌, Bool, true, false, ltb, List, [], ◌∷◌, ◌++◌, length, is_some, Some, None, Ok, Err, Option, Result, unwrap_or, sym, refl, ap, ◌∙◌, subst, arith, length-append}
 use Rattle.std.proofs.lemmas.List.{append_assoc}
-use borrow.Author.Tests.{clash}
 use Rattle.arch.specs.declared.condition.Condition.{Condition}
 use Rattle.arch.specs.Walks.{Walk, answers, raises, reads, ◌>>=◌, check, Traced, reading, over, onward, then, Gives, Walks, asking, Agree, SeesOnlyItsTrace}
 
@@ -53,13 +52,13 @@ module _ {A B : Type 0} {limit : ℕ} {word : ℕ → Option ℕ} {m : ℕ} {bef
 -- what is listed begins with the address read, and goes on with the rest
 module _ {A : Type 0} (word other : ℕ → Option ℕ) (at : ℕ) (next : ℕ → Traced A) where
   first_agrees : (t : Bool) (o : Option ℕ) → t ≡ true → Agree word other (reading at t o next).trace → word at ≡ other at
-  first_agrees false o low agree = absurd (clash low)
+  first_agrees false o low agree = absurd cc
   first_agrees true None low agree = agree.0
   first_agrees true (Some v) low agree = agree.0
 
   rest_agrees : (t : Bool) (o : Option ℕ) (v : ℕ) → t ≡ true → o ≡ Some v → Agree word other (reading at t o next).trace → Agree word other (next v).trace
-  rest_agrees false o v low here agree = absurd (clash low)
-  rest_agrees true None v low here agree = absurd (clash (ap is_some here))
+  rest_agrees false o v low here agree = absurd cc
+  rest_agrees true None v low here agree = absurd cc
   rest_agrees true (Some u) v low here agree = subst (λ x. Agree word other (next x).trace) (ap (λ x. unwrap_or x 0) here) agree.1
 
 -- a walk sees no more than it lists

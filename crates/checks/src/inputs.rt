@@ -1,5 +1,6 @@
 // What a run text is read from: readers that give one byte at a time, that a signal interrupts, that fail in mid-text,
 // and that have more than is wanted.
+use runtext::BYTES;
 use std::io;
 use std::io::{ErrorKind, Read};
 use std::process::Abort;
@@ -60,14 +61,14 @@ fn one_byte_at_a_time(rt: HostRuntime) -> Result<(), Fail> {
     reads(&rt, OneByOne(bytes), bytes.len(), bytes)?;
     reads(&rt, OneByOne(bytes), 6, &bytes[..6])?;
     reads(&rt, OneByOne(bytes), 0, b"")?;
-    reads(&rt, OneByOne(b""), input::BYTES, b"")
+    reads(&rt, OneByOne(b""), BYTES + 1, b"")
 }
 
 #[test]
 fn no_more_than_the_limit(rt: HostRuntime) -> Result<(), Fail> {
     let bytes = vec![in rt.alloc(); b'Z'; 70000]?;
-    reads(&rt, bytes.as_slice(), input::BYTES, &bytes[..65537])?;
-    reads(&rt, OneByOne(&bytes), input::BYTES, &bytes[..65537])
+    reads(&rt, bytes.as_slice(), BYTES + 1, &bytes[..65537])?;
+    reads(&rt, OneByOne(&bytes), BYTES + 1, &bytes[..65537])
 }
 
 #[test]
@@ -79,7 +80,7 @@ fn an_error_in_mid_text(rt: HostRuntime) -> Result<(), Fail> {
         times: 1,
         rest: &bytes[6..],
     };
-    match input::text(rt.alloc(), reader, input::BYTES) {
+    match input::text(rt.alloc(), reader, BYTES + 1) {
         Ok(_) => Err(Fail::new("read past an error")),
         Err(error) => {
             assert_eq!(rt; error.kind(), ErrorKind::BrokenPipe);
@@ -97,5 +98,5 @@ fn an_interrupted_read(rt: HostRuntime) -> Result<(), Fail> {
         times: 3,
         rest: &bytes[6..],
     };
-    reads(&rt, reader, input::BYTES, bytes)
+    reads(&rt, reader, BYTES + 1, bytes)
 }

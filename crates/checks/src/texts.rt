@@ -3,6 +3,8 @@
 use arch::call::{Access, Call, SourceName};
 use arch::condition::Condition;
 use arch::record::{BlockKey, Word};
+use runtext::places::Places;
+use runtext::run::Run;
 use runtext::trip::{reopened, restored};
 use runtext::{Counts, Refusal, read, write};
 use std::alloc::{AllocError, Global};
@@ -108,9 +110,11 @@ fn accepted(rt: &impl Abort, heap: Global, text: &str, places: Counts) -> Result
     let mut lent = lend(heap, places, text.len())?;
     let result = reopened(
         text.as_bytes(),
-        &mut lent.words,
-        &mut lent.keys,
-        &mut lent.calls,
+        &mut Places {
+            words: &mut lent.words,
+            keys: &mut lent.keys,
+            calls: &mut lent.calls,
+        },
         &mut lent.bytes,
     );
     assert_eq!(rt; result, Ok(text.len()), "{}", text);
@@ -130,9 +134,11 @@ fn refused(
     let mut lent = lend(heap, places, 0)?;
     let result = read(
         text.as_bytes(),
-        &mut lent.words,
-        &mut lent.keys,
-        &mut lent.calls,
+        &mut Places {
+            words: &mut lent.words,
+            keys: &mut lent.keys,
+            calls: &mut lent.calls,
+        },
     );
     assert_eq!(rt; result, Err(why), "{}", text.as_str());
     assert!(rt; lent == lend(heap, places, 0)?, "{}", text.as_str());
@@ -392,9 +398,11 @@ fn texts_of_the_most_bytes(rt: HostRuntime) -> Result<(), Fail> {
     let mut lent = lend(heap, enough, 65535)?;
     let result = reopened(
         most.as_bytes(),
-        &mut lent.words,
-        &mut lent.keys,
-        &mut lent.calls,
+        &mut Places {
+            words: &mut lent.words,
+            keys: &mut lent.keys,
+            calls: &mut lent.calls,
+        },
         &mut lent.bytes,
     );
     assert_eq!(rt; result, Err(first));
@@ -405,7 +413,12 @@ fn texts_of_the_most_bytes(rt: HostRuntime) -> Result<(), Fail> {
 #[test]
 fn a_buffer_that_just_fits(rt: HostRuntime) -> Result<(), Fail> {
     let mut text = vec![in rt.alloc(); BYTE; TEXT.len()]?;
-    assert_eq!(rt; write(&WORDS, &KEYS, &CALLS, &mut text), Ok(TEXT.len()));
+    let run = Run {
+        words: &WORDS,
+        keys: &KEYS,
+        calls: &CALLS,
+    };
+    assert_eq!(rt; write(&run, &mut text), Ok(TEXT.len()));
     assert!(rt; text.as_slice() == TEXT.as_bytes());
     Ok(())
 }
@@ -420,7 +433,12 @@ fn unwritten(
     why: Refusal,
 ) -> Result<(), Fail> {
     let mut text = vec![in heap; BYTE; room]?;
-    assert_eq!(rt; write(words, keys, &CALLS, &mut text), Err(why));
+    let run = Run {
+        words,
+        keys,
+        calls: &CALLS,
+    };
+    assert_eq!(rt; write(&run, &mut text), Err(why));
     assert!(rt; text == vec![in heap; BYTE; room]?);
     Ok(())
 }
@@ -450,13 +468,17 @@ fn runs_that_are_not_written(rt: HostRuntime) -> Result<(), Fail> {
 // The run with every kind of line, written out and read again with these places and bytes.
 fn again(lent: &mut Lent) -> Result<Counts, Refusal> {
     restored(
-        &WORDS,
-        &KEYS,
-        &CALLS,
+        &Run {
+            words: &WORDS,
+            keys: &KEYS,
+            calls: &CALLS,
+        },
         &mut lent.bytes,
-        &mut lent.words,
-        &mut lent.keys,
-        &mut lent.calls,
+        &mut Places {
+            words: &mut lent.words,
+            keys: &mut lent.keys,
+            calls: &mut lent.calls,
+        },
     )
 }
 

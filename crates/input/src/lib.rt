@@ -1,4 +1,4 @@
-// What the programs share: a run text as it is read, and the room that any run text needs.
+// What the programs share: a run text as it is read.
 #![tactic(auto)]
 
 ghost use Rattle.std.specs.Prelude.{◌≡◌, ◌≢◌, ◌≤◌, IfOk, IfErr, IfSome, take, vec_len};
@@ -7,16 +7,6 @@ ghost use Rattle.std.specs.IoError.{error_kind};
 use std::alloc::Global;
 use std::io;
 use std::io::{ErrorKind, Read};
-
-// One byte more than the longest text: enough to know that it is too long.
-pub const BYTES: usize = 65537;
-
-// Places for all that a text can say: a call's line has four bytes or more.
-pub const WORDS: usize = 1024;
-
-pub const KEYS: usize = 256;
-
-pub const CALLS: usize = 16384;
 
 // The bytes that the reader gives, in order, until it ends or has given `limit` of them. An
 // interrupted read is tried again; any other error, of the reader or of memory, is passed on. (The

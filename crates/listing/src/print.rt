@@ -7,8 +7,8 @@ use machine::Outcome;
 use std::fmt;
 use std::fmt::{Display, Formatter, Write};
 
-// What came of the call on a line of the text. It prints the whole line of the listing with its line end, or
-// nothing where the listing has none.
+// What came of the call on a line of the text. It prints the whole line of the listing with its
+// line end, or nothing where the listing has none.
 #[derive(Clone, Copy)]
 struct Numbered {
     line: usize,
@@ -43,7 +43,8 @@ impl Display for Numbered {
                 }
                 .fmt(f)
             }
-            // a load that is done goes without saying, and no line of a text asks for a fetch or a store
+            // a load that is done goes without saying, and no line of a text asks for a fetch or a
+            // store
             Outcome::Loaded(Ok(())) | Outcome::Fetched(_) | Outcome::Stored(_) => Ok(()),
         }
     }

@@ -1,12 +1,13 @@
 // Lists a run: standard input has its text, standard output gets its listing.
 #![tactic(auto)]
 
-use input::BYTES;
 use machine::Sources;
+use runtext::BYTES;
 
 fn list(rt: &HostRuntime) -> anyhow::Result<()> {
     let heap = rt.alloc();
-    let text = input::text(heap, rt.stdin(), BYTES)?;
+    // one byte more than the longest text: enough to know that it is too long
+    let text = input::text(heap, rt.stdin(), BYTES + 1)?;
     let mut sources = Sources {
         access: listing::stack(),
         page: listing::stack(),

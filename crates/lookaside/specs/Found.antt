@@ -1,8 +1,8 @@
 -- A pair of words that a table finds stands in one of its rows. The checker takes a law's proof from specs/.
-use Rattle.std.specs.Prelude.{◌≡◌, ℕ, zero, suc, ◌==◌, Bool, true, false, cond, ◌&&◌, List, [], ◌∷◌, Some, None, Option, find, slice_index_or, refl}
+use Rattle.std.specs.Prelude.{◌≡◌, ℕ, zero, suc, ◌==◌, true, ◌&&◌, List, [], ◌∷◌, Some, None, Option, slice_index_or}
 use Rattle.std.proofs.Common.{ap, arith}
 use Rattle.std.proofs.lemmas.Bool.Decides.{nat_tests}
-use Rattle.std.specs.Option.{option_map, option_and_then}
+use Rattle.std.specs.Option.{option_map}
 use Rattle.lookup.specs.declared.words.Words.{Words}
 use Rattle.lookaside.specs.declared.row.Entry.{Entry}
 use Rattle.lookaside.specs.declared.row.Row.{Row}
@@ -19,12 +19,8 @@ full_entry (Some o) k a e f = let key = same_words o.key k e in let answer : o.a
 full : (r : Row) (k a : Words) → matches k r ≡ true → answer_of r ≡ Some a → r ≡ full_row k a
 full r k a e f = λ i. record { entry = full_entry r.entry k a e f i }
 
-one_found : (r : Row) (k a : Words) → row_answer r k ≡ Some a → r ≡ full_row k a
-one_found r k a e = by (matches k r) refl e
-  where
-    by : (t : Bool) → matches k r ≡ t → cond t (answer_of r) None ≡ Some a → r ≡ full_row k a
-    by true m f = full r k a m f
-    by false m f = absurd cc
+row_found : (r : Row) (k a : Words) → row_answer r k ≡ Some a → r ≡ full_row k a
+row_found r k a e = let known = full r k a in grind (arith, nat_tests, known)
 
 later : (r : Row) (rows : List Row) (k a : Words) → HasPair rows k a → HasPair (r ∷ rows) k a
 later r rows k a (i, within, here) = (suc i, omega arith, here)
@@ -32,14 +28,14 @@ later r rows k a (i, within, here) = (suc i, omega arith, here)
 -- a row at any place, past the last an empty one
 pub at_found : (rows : List Row) (i : ℕ) (k a : Words) → row_answer (slice_index_or rows i empty_row) k ≡ Some a → HasPair rows k a
 at_found [] i k a f = absurd cc
-at_found (r ∷ rows) zero k a f = (0, omega arith, one_found r k a f)
+at_found (r ∷ rows) zero k a f = (0, omega arith, row_found r k a f)
 at_found (r ∷ rows) (suc i) k a f = later r rows k a (at_found rows i k a f)
 
 -- the first of several
 pub first_found : (rows : List Row) (k a : Words) → first_answer rows k ≡ Some a → HasPair rows k a
 first_found [] k a f = absurd cc
-first_found (r ∷ rows) k a f = by (first_found rows k a) (matches k r) refl f
-  where
-    by : (first_answer rows k ≡ Some a → HasPair rows k a) → (t : Bool) → matches k r ≡ t → option_and_then answer_of (cond t (Some r) (find (matches k) rows)) ≡ Some a → HasPair (r ∷ rows) k a
-    by found true m g = (0, omega arith, full r k a m g)
-    by found false m g = later r rows k a (found g)
+first_found (r ∷ rows) k a f =
+    let known = full r k a in
+    let here : r ≡ full_row k a → HasPair (r ∷ rows) k a = λ e. (0, omega arith, e) in
+    let rest = λ (g : first_answer rows k ≡ Some a). later r rows k a (first_found rows k a g) in
+    grind (arith, nat_tests, known, here, rest)

@@ -1,5 +1,5 @@
 // The table of a round-robin lookaside: 32 rows, filled in turn.
-ghost use Rattle.std.specs.Prelude.{◌≡◌, ◌+◌, ◌%◌, ◌<◌, replicate, slice_set};
+ghost use Rattle.std.specs.Prelude.{◌≡◌, ◌+◌, ◌%◌, ◌<◌, length, replicate, slice_set};
 ghost use Rattle.lookaside.specs.Found.{first_found};
 ghost use Rattle.lookaside.specs.Rows.{empty_row, first_answer, full_row, round_robin_rows, HasPair};
 
@@ -14,7 +14,7 @@ const ROWS: usize = 32;
 pub struct RoundRobinTable {
     pub rows: [Row; ROWS],
     pub next: usize,
-    ghost within: { next < round_robin_rows },
+    ghost within: { (next < round_robin_rows) × (length rows ≡ round_robin_rows) },
 }
 
 // A round-robin lookaside over a source.

@@ -16,7 +16,7 @@ pub trait Table {
 
     ghost after_clear: { Self → Type 0 };
 
-    // A pair found is in a row.
+    // A pair found is in a row. It stands above the functions since `shown` of a source cites it.
     ghost found: { (t : Self) (k a : Words) → finds t k ≡ Some a → has_pair t k a };
 
     // The words of the answer that it finds for a key, or None.

@@ -1,7 +1,6 @@
 -- What a source gives when it is asked.
 use Rattle.std.specs.Prelude.{◌≡◌, ◌⊎◌, is_some, Some, None, Ok, Option, ◌≢◌}
 use Rattle.std.proofs.Common.{ap}
-use borrow.Author.Tests.{clash}
 use Rattle.arch.specs.Walks.{Traced, given}
 
 -- the shown answer, with no address asked for; where none is shown, what comes of the walk
@@ -10,7 +9,7 @@ asked None fresh = fresh
 asked (Some a) fresh = given a
 
 pub none_is_not_some : {A : Type 0} {a : A} → None ≢ Some a
-none_is_not_some e = clash (ap is_some e)
+none_is_not_some e = cc
 
 -- every pair held after was held before, or is its key's fresh answer
 abbrev pub Kept : {Key Answer : Type 0} → (Key → Type 0) → (Key → Traced Answer) → (Key → Answer → Type 0) → (Key → Answer → Type 0) → Type 0

@@ -1,7 +1,6 @@
 -- A fetch or a store meets the conditions of its translation, and no other: what its translation comes to is a multiple
 -- of 8 whose doubleword is there.
 use Rattle.std.proofs.Common.{◌≡◌, ℕ, ◌*◌, ◌/◌, ◌%◌, Bool, true, false, cond, not, ◌&&◌, eqb, ltb, List, is_some, is_ok, Some, None, Ok, Err, Option, Result, unwrap_or, sym, refl, ap, ◌∙◌, subst, arith, eq-eqb, eqb-true}
-use borrow.Author.Tests.{clash}
 use Rattle.arch.specs.declared.call.Access.{Access}
 use Rattle.arch.specs.declared.condition.Condition.{Condition}
 use Rattle.arch.specs.declared.condition.Condition.TheVariants.{BadNumber, Unaligned, ShortList, LowAddress, Addressing, AccessList, Page, Key}
@@ -32,7 +31,7 @@ framed_even frame a e = omega arith
 
 not_false : (t : Bool) → not t ≡ false → t ≡ true
 not_false true e = refl
-not_false false e = absurd (clash (sym e))
+not_false false e = absurd cc
 
 pub ok_same : {A : Type 0} {a b : A} → ◌≡◌ {A = Result A Condition} (Ok a) (Ok b) → a ≡ b
 ok_same e = cc
@@ -43,10 +42,10 @@ then_answer {A} {B} s k b e = by s.result refl e
   where
     by : (o : Result A Condition) → s.result ≡ o → (onward s.trace o k).result ≡ Ok b → (a : A) × ((s.result ≡ Ok a) × ((k a).result ≡ Ok b))
     by (Ok a) same h = (a, (same, h))
-    by (Err c) same h = absurd (clash (ap is_ok h))
+    by (Err c) same h = absurd cc
 
 past_unless : {B : Type 0} (c : Condition) (t : Bool) (s : Traced B) (b : B) → (then (unless c t) (λ _. s)).result ≡ Ok b → (t ≡ false) × (s.result ≡ Ok b)
-past_unless c true s b e = absurd (clash (ap is_ok e))
+past_unless c true s b e = absurd cc
 past_unless c false s b e = (refl, e)
 
 module _ (r : Registers) (asks : AccessKey → Traced AccessAnswer) (finds : PageKey → Traced PageAnswer) (view : View) (access : Access) where
@@ -90,7 +89,7 @@ module _ (n : Scene) (access : Access) (o : Operand) (places y : ℕ) (came : ((
   fetched_there = by (n.real.word y) accessed_there.1
     where
       by : (o : Option ℕ) → is_some o ≡ true → value_there o ≡ Ok (unwrap_or o 0)
-      by None e = absurd (clash e)
+      by None e = absurd cc
       by (Some x) e = refl
 
   pub stored_there : put_answer n.real y ≡ Ok tt
@@ -103,4 +102,4 @@ ordered_use {X} rows real y f e = by (first_of rows) e
   where
     by : (o : Option Condition) → Ok y ≡ verdict o real → ◌≡◌ {A = Result X Condition} (Ok (f y)) (verdict o (f real))
     by None e = ap (λ a. Ok (f a)) (ok_same e)
-    by (Some c) e = absurd (clash (sym (ap is_ok e)))
+    by (Some c) e = absurd cc

@@ -1,6 +1,5 @@
 -- Two machines that are alike in what a translation can see answer alike.
 use Rattle.std.proofs.Common.{◌≡◌, ℕ, ◌*◌, ◌/◌, Bool, true, false, cond, not, ◌||◌, eqb, ltb, List, [], ◌∷◌, ◌++◌, get_or, is_some, is_ok, Some, None, Ok, Err, Option, Result, sym, refl, ap, ◌∙◌, subst, ap₂}
-use borrow.Author.Tests.{clash}
 use Rattle.arch.specs.declared.call.Access.{Access}
 use Rattle.arch.specs.declared.condition.Condition.{Condition}
 use Rattle.arch.specs.declared.condition.Condition.TheVariants.{BadNumber, ShortList, LowAddress, Addressing, Key}
@@ -41,7 +40,7 @@ module _ (w v : ℕ → Option ℕ) where
     where
       ok_is : ◌≡◌ {A = Result A Condition} (Ok b) (Ok a) → b ≡ a
       ok_is e = cc
-  onward_back l (Err c) k a e h = absurd (clash (ap is_ok e))
+  onward_back l (Err c) k a e h = absurd cc
 
 onward_alike : {A B : Type 0} (l : List ℕ) (r : Result A Condition) (k j : A → Traced B) → ((a : A) → r ≡ Ok a → j a ≡ k a) → onward l r j ≡ onward l r k
 onward_alike l (Ok a) k j same = ap (λ s. record { result = s.result; trace = l ++ s.trace }) (same a refl)
@@ -97,7 +96,7 @@ then_ok : {A B : Type 0} (s : Traced A) (k : A → Traced B) (a : A) → s.resul
 then_ok s k a e = ap (λ r. (onward s.trace r k).result) e
 
 unless_passed : (c : Condition) (t : Bool) (u : Unit {0}) → (unless c t).result ≡ Ok u → t ≡ false
-unless_passed c true u e = absurd (clash (ap is_ok e))
+unless_passed c true u e = absurd cc
 unless_passed c false u e = refl
 
 -- two scenes with the same registers

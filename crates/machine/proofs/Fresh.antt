@@ -1,6 +1,5 @@
 -- A call over sources whose answers were fresh once gives, where nothing changed, what it gives with bare ones.
 use Rattle.std.proofs.Common.{◌≡◌, ℕ, ◌%◌, Bool, true, false, cond, not, ◌||◌, eqb, ltb, List, ◌∷◌, Some, None, Option, Result, sym, refl, ap, ◌∙◌}
-use borrow.Author.Tests.{clash}
 use Rattle.arch.specs.declared.call.Access.{Access}
 use Rattle.arch.specs.declared.call.Access.TheVariants.{Fetch, Store}
 use Rattle.arch.specs.declared.condition.Condition.{Condition}
@@ -38,13 +37,13 @@ SameWhereUnchanged c =
 refused_same : {A : Type 0} (p q : Bool) (s t : Traced A) → (p || q) ≡ true → (then (unless BadNumber p) (λ _. then (unless ShortList q) (λ _. s))).result ≡ (then (unless BadNumber p) (λ _. then (unless ShortList q) (λ _. t))).result
 refused_same true q s t e = refl
 refused_same false true s t e = refl
-refused_same false false s t e = absurd (clash e)
+refused_same false false s t e = absurd cc
 
 access_refused_same : {A : Type 0} (p q u : Bool) (s t : Traced A) → (p || (q || u)) ≡ true → (then (unless BadNumber p) (λ _. then (unless Unaligned q) (λ _. then (unless ShortList u) (λ _. s)))).result ≡ (then (unless BadNumber p) (λ _. then (unless Unaligned q) (λ _. then (unless ShortList u) (λ _. t)))).result
 access_refused_same true q u s t e = refl
 access_refused_same false true u s t e = refl
 access_refused_same false false true s t e = refl
-access_refused_same false false false s t e = absurd (clash e)
+access_refused_same false false false s t e = absurd cc
 
 module _ (access : Access) (o : Operand) (places : ℕ) (n : Scene) (past : Past) (once : ShowFreshOnce (since n.real.word past) n.shown) where
   -- not refused: the keys wanted are asked for

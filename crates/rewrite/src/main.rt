@@ -4,14 +4,16 @@
 
 use arch::call::Call;
 use arch::record::{BlockKey, Word};
-use input::{BYTES, CALLS, KEYS, WORDS};
 use lines::RefusalLine;
+use runtext::places::Places;
 use runtext::trip::reopened;
+use runtext::{BYTES, CALLS, KEYS, WORDS};
 use std::io::Write;
 
 fn rewrite(rt: &HostRuntime) -> anyhow::Result<()> {
     let heap = rt.alloc();
-    let text = input::text(heap, rt.stdin(), BYTES)?;
+    // one byte more than the longest text: enough to know that it is too long
+    let text = input::text(heap, rt.stdin(), BYTES + 1)?;
     let mut copy = vec![in heap; 0u8; BYTES]?;
     let mut words = vec![in heap; Word {
         address: 0,
@@ -19,7 +21,12 @@ fn rewrite(rt: &HostRuntime) -> anyhow::Result<()> {
     }; WORDS]?;
     let mut keys = vec![in heap; BlockKey { block: 0, key: 0 }; KEYS]?;
     let mut calls = vec![in heap; Call::SetPrefix { prefix: 0 }; CALLS]?;
-    match reopened(&text, &mut words, &mut keys, &mut calls, &mut copy) {
+    let mut places = Places {
+        words: &mut words,
+        keys: &mut keys,
+        calls: &mut calls,
+    };
+    match reopened(&text, &mut places, &mut copy) {
         Ok(n) => {
             let mut out = rt.stdout();
             out.write_all(&copy[0..n])?;

@@ -1,8 +1,8 @@
+pub mod Adding
 pub mod ByKind
 pub mod Cuts
 pub mod Filling
 pub mod FirstField
-pub mod Laying
 pub mod Lines
 pub mod Numerals
 pub mod OneRefusal
@@ -10,5 +10,4 @@ pub mod Outgoing
 pub mod Runs
 pub mod Sizes
 pub mod Sofar
-pub mod Trips
 pub mod Written

@@ -1,5 +1,5 @@
 -- The lines of a run text can be told apart, and where they end. Assumes nothing.
-use Rattle.std.proofs.Common.{◌≡◌, ℕ, ◌≤◌, cond, eqb, List, [], ◌∷◌, ◌++◌, length, Some, None, Option, sym, refl, ap, ◌∙◌, subst, append_assoc, arith}
+use Rattle.std.proofs.Common.{◌≡◌, ℕ, ◌≤◌, cond, eqb, List, [], ◌∷◌, ◌++◌, Some, Option, sym, refl, ap, ◌∙◌, append_assoc, arith}
 use Rattle.arch.specs.declared.call.Access.{Access}
 use Rattle.arch.specs.declared.call.Access.TheVariants.{Fetch, Store}
 use Rattle.arch.specs.declared.call.Call.{Call}
@@ -14,8 +14,7 @@ use Rattle.runtext.specs.declared.line.Line.TheVariants as line
 use Rattle.runtext.specs.declared.line.Verb.TheVariants as verb
 use Rattle.runtext.specs.Lines.{letter, access_letter, source_letter, two, call_fields, fields, kind_of, spell_fields, spell_line}
 use Rattle.runtext.specs.Numerals.{numeral}
-use Rattle.runtext.specs.Reading.{Reads, Lacks, Cut}
-use Rattle.runtext.specs.Runs.{header}
+use Rattle.runtext.specs.Reading.{Lacks, Cut}
 use Rattle.runtext.proofs.Cuts.{cut_finds, numeral_lacks}
 
 -- letters name one thing each
@@ -102,21 +101,9 @@ parted l after rest bs first o q ll d lf f e =
     let b = cut_finds 9 bs first q (letter (kind_of l) ∷ []) (fields l) lf f (λ e. omega (arith, letter_least (kind_of l), e), tt) a.0 in
     record { ends = a.1; begins = b.0; follows = b.1 }
 
--- and these parts make the line up
-pub made_up : (l : Line) (b : ℕ) (fs after rest bs first : List ℕ) (o q : Option (List ℕ)) → letter (kind_of l) ≡ b → b ∷ [] ≡ first → fields l ≡ fs → q ≡ Some fs → Cut 9 bs first q → o ≡ Some after → Cut 10 rest bs o → spell_line l ++ after ≡ rest
-made_up l b fs after rest bs first o q n f e p d s c =
-    let c' : rest ≡ bs ++ (10 ∷ after) = subst (Cut 10 rest bs) s c in
-    let d' : bs ≡ first ++ (9 ∷ fs) = subst (Cut 9 bs first) p d in
-    let m : spell_fields l ≡ bs = (λ i. n i ∷ 9 ∷ e i) ∙ ap (λ t. t ++ (9 ∷ fs)) f ∙ sym d' in
-    append_assoc (spell_fields l) (10 ∷ []) after ∙ ap (λ t. t ++ (10 ∷ after)) m ∙ sym c'
-
 -- the first line
 abbrev pub title : List ℕ
 title = 82 ∷ 85 ∷ 78 ∷ 9 ∷ 49 ∷ []
 
 pub title_lacks : Lacks 10 title
 title_lacks = (λ e. omega arith, (λ e. omega arith, (λ e. omega arith, (λ e. omega arith, (λ e. omega arith, tt)))))
-
-pub after_title : (text bs : List ℕ) (o : Option (List ℕ)) → Cut 10 text bs o → bs ≡ title → Reads o (λ _. Unit {0}) (λ x. header ++ x) text
-after_title text bs None c e = λ x _ f. omega (arith, ap length (f ∙ c ∙ e))
-after_title text bs (Some after) c e = (tt, sym (c ∙ ap (λ t. t ++ (10 ∷ after)) e))

@@ -1,10 +1,11 @@
 -- A text has one refusal. Assumes nothing.
-use Rattle.std.proofs.Common.{◌≡◌, ℕ, ◌+◌, ◌≤◌, Bool, true, false, eqb, ltb, ◌⊎◌, List, [], ◌∷◌, ◌++◌, length, drop, MatchBool, sym, refl, ap, ◌∙◌, subst, inl, inr, ⊎_elim, append_assoc, arith}
+use Rattle.std.proofs.Common.{◌≡◌, ℕ, ◌+◌, ◌≤◌, Bool, true, false, eqb, ltb, ◌⊎◌, List, [], ◌∷◌, ◌++◌, length, drop, IfErr, Ok, Err, Result, MatchBool, sym, refl, ap, ◌∙◌, subst, inl, inr, ⊎_elim, append_assoc, arith}
 use Rattle.arch.specs.declared.condition.Condition.{Condition}
 use Rattle.arch.specs.declared.condition.Condition.TheVariants.{TooMuch}
 use Rattle.std.proofs.lemmas.List.Prefix.{front_rest}
-use Rattle.std.proofs.lemmas.Bool.{ltb-false, le-ltb, ne_eqb, cond-false}
+use Rattle.std.proofs.lemmas.Bool.{ltb-false, ne_eqb, cond-false}
 use Rattle.std.specs.List.{flat_map, AllByRecursion}
+use Rattle.std.proofs.lemmas.Grind.{flat_map-append}
 use Rattle.runtext.specs.declared.Counts.{Counts}
 use Rattle.runtext.specs.declared.Refusal.{Refusal}
 use Rattle.runtext.specs.declared.line.Line.{Line}
@@ -13,20 +14,20 @@ use Rattle.runtext.specs.Reading.{Lacks}
 use Rattle.runtext.specs.Runs.{Run, lines, header, spell, counts, Readable}
 use Rattle.runtext.specs.Verdicts.{Blames, Before, BadLine, Refused, first_field, first_line}
 use Rattle.runtext.proofs.Lines.{spell_lacks}
-use Rattle.runtext.proofs.Runs.{line_same, lines_same, goes, held, joined_append}
+use Rattle.runtext.proofs.Runs.{line_same, lines_same, goes, held}
 use Rattle.runtext.proofs.Sofar.{Sofar, add, empty, start, further, spell_add, spell_empty}
 
 -- of two rows of lines that begin a text one begins the other
-compare : (ls ms : List Line) (x y : List ℕ) → flat_map spell_line ls ++ x ≡ flat_map spell_line ms ++ y → ((ls ≡ ms) × (x ≡ y)) ⊎ (((n : Line) × (ns : List Line) × (ls ≡ ms ++ (n ∷ ns))) ⊎ ((n : Line) × (ns : List Line) × (ms ≡ ls ++ (n ∷ ns))))
-compare [] [] x y e = inl (refl, e)
-compare [] (m ∷ ms) x y e = inr (inr (m, ms, refl))
-compare (l ∷ ls) [] x y e = inr (inl (l, ls, refl))
-compare (l ∷ ls) (m ∷ ms) x y e =
-    let p = line_same l m (flat_map spell_line ls ++ x) (flat_map spell_line ms ++ y) (sym (append_assoc (spell_line l) (flat_map spell_line ls) x) ∙ e ∙ append_assoc (spell_line m) (flat_map spell_line ms) y) in
+compare : (ls ms : List Line) (x y : List ℕ) → AllByRecursion Sound ls → flat_map spell_line ls ++ x ≡ flat_map spell_line ms ++ y → ((ls ≡ ms) × (x ≡ y)) ⊎ (((n : Line) × (ns : List Line) × (ls ≡ ms ++ (n ∷ ns))) ⊎ ((n : Line) × (ns : List Line) × (ms ≡ ls ++ (n ∷ ns))))
+compare [] [] x y h e = inl (refl, e)
+compare [] (m ∷ ms) x y h e = inr (inr (m, ms, refl))
+compare (l ∷ ls) [] x y h e = inr (inl (l, ls, refl))
+compare (l ∷ ls) (m ∷ ms) x y h e =
+    let p = line_same l m (flat_map spell_line ls ++ x) (flat_map spell_line ms ++ y) h.0 (sym (append_assoc (spell_line l) (flat_map spell_line ls) x) ∙ e ∙ append_assoc (spell_line m) (flat_map spell_line ms) y) in
     ⊎_elim
     (λ s. inl ((λ i. p.0 i ∷ s.0 i), s.1))
     (λ o. inr (⊎_elim (λ n. inl (n.0, n.1, λ i. p.0 i ∷ n.2 i)) (λ n. inr (n.0, n.1, λ i. sym p.0 i ∷ n.2 i)) o))
-    (compare ls ms x y p.1)
+    (compare ls ms x y h.1 p.1)
 
 spell_apart : (q r : Run) (x y : List ℕ) → spell q ++ x ≡ spell r ++ y → flat_map spell_line (lines q) ++ x ≡ flat_map spell_line (lines r) ++ y
 unfolding spell
@@ -34,7 +35,7 @@ spell_apart q r x y e = ap (drop 6) e
 
 spell_more : (q r : Run) (ns : List Line) → lines q ≡ lines r ++ ns → spell q ≡ spell r ++ flat_map spell_line ns
 unfolding spell
-spell_more q r ns e = ap (λ t. header ++ t) (ap (flat_map spell_line) e ∙ joined_append spell_line (lines r) ns)
+spell_more q r ns e = ap (λ t. header ++ t) (ap (flat_map spell_line) e ∙ flat_map-append spell_line (lines r) ns)
 
 line_is : (p x : List ℕ) → Lacks 10 p → first_line (p ++ (10 ∷ x)) ≡ p ++ (10 ∷ [])
 line_is [] x l = refl
@@ -44,7 +45,7 @@ line_is (b ∷ p) x l = ap (λ t. b ∷ t) (cond-false (eqb b 10) [] (first_line
 passes : (p : Counts) (text : List ℕ) (r q : Run) (rest rest' : List ℕ) (n : Line) (ns : List Line) → length text ≤ 65536 → Readable p r → Readable p q → spell r ++ rest ≡ text → spell q ++ rest' ≡ text → lines q ≡ lines r ++ (n ∷ ns) → ((k : Run) → Readable p k → spell k ≡ spell r ++ first_line rest → ⊥) → ⊥
 passes p text r q rest rest' n ns short hr hq sr sq e breaks =
     let g = goes p q r n ns hq e in
-    let ok = held (lines r) n ns (subst (AllByRecursion Sound) e hq.spellable.sound) in
+    let ok = held Sound (lines r) n ns (subst (AllByRecursion Sound) e hq.spellable.sound) in
     let after : List ℕ = flat_map spell_line ns ++ rest' in
     let here : spell r ++ (spell_line n ++ after) ≡ text =
     ap (λ t. spell r ++ t) (sym (append_assoc (spell_line n) (flat_map spell_line ns) rest')) ∙ sym (append_assoc (spell r) (flat_map spell_line (n ∷ ns)) rest') ∙ ap (λ t. t ++ rest') (sym (spell_more q r (n ∷ ns) e)) ∙ sq in
@@ -94,7 +95,7 @@ module _ (p : Counts) (text : List ℕ) (short : length text ≤ 65536) where
       (λ n. absurd (passes p text y.0 x.0 rest' rest n.0 n.1 short y.1 x.1 sy sx n.2 (λ q h f. k' q h (f ∙ ap (λ t. t ++ first_line rest') y.2))))
       (λ n. absurd (passes p text x.0 y.0 rest rest' n.0 n.1 short x.1 y.1 sx sy n.2 (λ q h f. k q h (f ∙ ap (λ t. t ++ first_line rest) x.2))))
       o)
-      (compare (lines x.0) (lines y.0) rest rest' (spell_apart x.0 y.0 rest rest' (sx ∙ sym sy)))
+      (compare (lines x.0) (lines y.0) rest rest' x.1.spellable.sound (spell_apart x.0 y.0 rest rest' (sx ∙ sym sy)))
 
   bad_same : (e d : Refusal) → BadLine p text e → BadLine p text d → e ≡ d
   bad_same e d a b = by_before e d a.front a.rest a.found b.front b.rest b.found a.split b.split a.breaks b.breaks a.blames b.blames a.before b.before
@@ -109,6 +110,7 @@ one_refusal p text e d = by_length (ltb 65536 (length text)) refl
     by_length true _ a b = λ i. record { condition = (a.0 ∙ sym b.0) i; line = (a.1 ∙ sym b.1) i }
     by_length false f a b = bad_same p text (omega (arith, ltb-false 65536 (length text) f)) e d a b
 
--- a text within the limit is refused by its bad line
-pub refused_short : (p : Counts) (text : List ℕ) (e : Refusal) → length text ≤ 65536 → BadLine p text e → Refused p text e
-refused_short p text e h b = subst (λ t. MatchBool t ((e.condition ≡ TooMuch) × (e.line ≡ 1)) (BadLine p text e)) (sym (le-ltb 65536 (length text) h)) b
+-- where a text is refused, that is its one refusal
+pub single : {A : Type 0} (p : Counts) (text : List ℕ) (o : Result A Refusal) → IfErr o (Refused p text) → IfErr o (λ e. (d : Refusal) → Refused p text d → d ≡ e)
+single p text (Ok n) r = tt
+single p text (Err e) r = λ d h. one_refusal p text d e h r

@@ -3,11 +3,11 @@ use Rattle.std.proofs.Common.{ℕ, ◌*◌, ◌≤◌, List, [], ◌∷◌, map,
 use Rattle.arch.specs.declared.call.Call.{Call}
 use Rattle.arch.specs.declared.call.Call.TheVariants as call
 use Rattle.std.specs.List.{flat_map}
+use Rattle.std.proofs.lemmas.Grind.{flat_map-append}
 use Rattle.runtext.specs.declared.line.Line.TheVariants as line
 use Rattle.runtext.specs.Lines.{call_fields, spell_line, two}
 use Rattle.runtext.specs.Runs.{Run, spell}
 use Rattle.runtext.proofs.Numerals.{numeral_some}
-use Rattle.runtext.proofs.Runs.{joined_append}
 
 two_some : (m n : ℕ) → 1 ≤ length (two m n)
 two_some m n = simp length-append (omega (arith, numeral_some m))
@@ -29,4 +29,4 @@ calls_long (c ∷ cs) = simp length-append (omega (arith, fields_some c, calls_l
 pub few_calls : (q : Run) → 4 * length q.calls ≤ length (spell q)
 unfolding spell
 few_calls q =
-    simp (joined_append, length-append) (omega (arith, calls_long q.calls))
+    simp (flat_map-append, length-append) (omega (arith, calls_long q.calls))

@@ -5,6 +5,7 @@ use Rattle.std.proofs.ByRecursion.{All-push}
 use Rattle.std.proofs.lemmas.List.{map_push, nil_from_length, length_push}
 use Rattle.std.proofs.lemmas.Bool.{cases_eq}
 use Rattle.std.specs.List.{flat_map, AllByRecursion}
+use Rattle.std.proofs.lemmas.Grind.{flat_map-append}
 use Rattle.runtext.specs.declared.Counts.{Counts}
 use Rattle.runtext.specs.declared.Refusal.{Refusal}
 use Rattle.runtext.specs.declared.line.Line.{Line}
@@ -16,7 +17,7 @@ use Rattle.runtext.specs.Runs.{Run, lines, header, spell, counts, Readable, Spel
 use Rattle.runtext.specs.Verdicts.{Full, Late, Goes, Blames, BadLine, no_lines, first_field, first_line}
 use Rattle.runtext.proofs.FirstField.{line_rest, line_ended}
 use Rattle.runtext.proofs.Lines.{spell_lacks, title, title_lacks}
-use Rattle.runtext.proofs.Runs.{joined_append, next_line}
+use Rattle.runtext.proofs.Runs.{next_line}
 
 -- a run with one line more
 abbrev pub add : Run → Line → Run
@@ -47,7 +48,7 @@ lines_add r (line.Call c) h =
 
 pub spell_add : (r : Run) (l : Line) → (Late (counts r) (kind_of l) → ⊥) → spell (add r l) ≡ spell r ++ spell_line l
 unfolding spell
-spell_add r l h = ap (λ t. header ++ t) (ap (flat_map spell_line) (lines_add r l h) ∙ joined_append spell_line (lines r) (l ∷ []) ∙ ap (λ t. flat_map spell_line (lines r) ++ t) (append-nil (spell_line l)))
+spell_add r l h = ap (λ t. header ++ t) (ap (flat_map spell_line) (lines_add r l h) ∙ flat_map-append spell_line (lines r) (l ∷ []) ∙ ap (λ t. flat_map spell_line (lines r) ++ t) (append-nil (spell_line l)))
 
 counts_add : (r : Run) (l : Line) → counts (add r l) ≡ one_more (counts r) l
 counts_add r (line.Doubleword w) = λ i. record { words = length_push r.words w i; keys = length r.keys; calls = length r.calls }

@@ -1,11 +1,11 @@
--- Numbers as a run text writes them: lower-case hexadecimal, no leading zero, and 0 for zero.
-use Rattle.std.specs.Prelude.{ℕ, zero, suc, ◌+◌, cond, List, [], ◌∷◌, map, nat_lt}
-use Rattle.std.specs.Int.Digits.{digits_of}
+-- Numbers as a run text writes them, as `{:x}` does: lower-case hexadecimal, no leading zero, and 0 for zero.
+use Rattle.std.specs.Prelude.{ℕ, false, List}
+use Rattle.std.specs.Fmt.{digits, digit_glyph}
 
 -- the digit of a number below 16
 abbrev pub hexit : ℕ → ℕ
-hexit d = cond (nat_lt d 10) (48 + d) (87 + d)
+hexit d = digit_glyph false d
 
-unfoldable pub numeral : ℕ → List ℕ
-numeral zero = 48 ∷ []
-numeral (suc n) = map hexit (digits_of 16 (suc n))
+-- the digits of a number of 64 bits
+abbrev pub numeral : ℕ → List ℕ
+numeral n = digits 16 false n

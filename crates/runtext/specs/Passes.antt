@@ -7,6 +7,7 @@ use Rattle.arch.specs.declared.record.Word.{Word}
 use Rattle.runtext.specs.declared.Counts.{Counts}
 use Rattle.runtext.specs.declared.line.Line.{Line}
 use Rattle.runtext.specs.declared.line.Line.TheVariants as line
+use Rattle.runtext.specs.declared.places.Places.{Places}
 use Rattle.runtext.specs.Lines.{kind_of, spell_line, Sound}
 use Rattle.runtext.specs.Reading.{Reads}
 use Rattle.runtext.specs.Runs.{Run, counts, lent, run_in, Spells}
@@ -25,17 +26,35 @@ Steps p found rest o = Reads o (λ x. Sound x.0 × Goes p found (kind_of x.0)) (
 abbrev pub seen : Line × Bor (List ℕ) → Line × List ℕ
 seen x = (x.0, x.1.now)
 
--- the three lists after a line was put into its place
-abbrev pub PutIn : Line → Counts → List Word → List BlockKey → List Call → List Word → List BlockKey → List Call → Type 0
-PutIn (line.Doubleword w) found ws ks cs ws' ks' cs' = (ws' ≡ slice_set ws found.words w) × (ks' ≡ ks) × (cs' ≡ cs)
-PutIn (line.Key k) found ws ks cs ws' ks' cs' = (ws' ≡ ws) × (ks' ≡ slice_set ks found.keys k) × (cs' ≡ cs)
-PutIn (line.Call c) found ws ks cs ws' ks' cs' = (ws' ≡ ws) × (ks' ≡ ks) × (cs' ≡ slice_set cs found.calls c)
+-- the same places are lent, whatever is in them
+pub record SamePlaces (p p' : Places) : Type 0 where
+  pub words : p'.words.ghost_name ≡ p.words.ghost_name
+  pub keys : p'.keys.ghost_name ≡ p.keys.ghost_name
+  pub calls : p'.calls.ghost_name ≡ p.calls.ghost_name
+  pub many : lent p' ≡ lent p
 
--- the lists after a text was read into them: n of their places have the one run that the text says, and the others are as they were
-pub record Filled (text : List ℕ) (ws : List Word) (ks : List BlockKey) (cs : List Call) (ws' : List Word) (ks' : List BlockKey) (cs' : List Call) (n : Counts) : Type 0 where
-  pub spells : Spells (lent ws ks cs) text (run_in ws' ks' cs' n)
-  pub counted : n ≡ counts (run_in ws' ks' cs' n)
-  pub only : (q : Run) → Spells (lent ws ks cs) text q → q ≡ run_in ws' ks' cs' n
-  pub words : drop n.words ws' ≡ drop n.words ws
-  pub keys : drop n.keys ks' ≡ drop n.keys ks
-  pub calls : drop n.calls cs' ≡ drop n.calls cs
+-- these lists are in the places
+pub record Has (p : Places) (ws : List Word) (ks : List BlockKey) (cs : List Call) : Type 0 where
+  pub words : p.words.now ≡ ws
+  pub keys : p.keys.now ≡ ks
+  pub calls : p.calls.now ≡ cs
+
+-- what is in the places after a line was put into its own
+abbrev pub PutIn : Line → Counts → Places → Places → Type 0
+PutIn (line.Doubleword w) found p p' = Has p' (slice_set p.words.now found.words w) p.keys.now p.calls.now
+PutIn (line.Key k) found p p' = Has p' p.words.now (slice_set p.keys.now found.keys k) p.calls.now
+PutIn (line.Call c) found p p' = Has p' p.words.now p.keys.now (slice_set p.calls.now found.calls c)
+
+-- the places past these many are as they were
+pub record Left (n : Counts) (p p' : Places) : Type 0 where
+  pub words : drop n.words p'.words.now ≡ drop n.words p.words.now
+  pub keys : drop n.keys p'.keys.now ≡ drop n.keys p.keys.now
+  pub calls : drop n.calls p'.calls.now ≡ drop n.calls p.calls.now
+
+-- the places after a text was read into them: n of them have the one run that the text says, and the others are as they were
+pub record Filled (text : List ℕ) (p p' : Places) (n : Counts) : Type 0 where
+  pub spells : Spells (lent p) text (run_in p' n)
+  pub counted : n ≡ counts (run_in p' n)
+  pub only : (q : Run) → Spells (lent p) text q → q ≡ run_in p' n
+  pub same : SamePlaces p p'
+  pub left : Left n p p'

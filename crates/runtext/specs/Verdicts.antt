@@ -64,6 +64,10 @@ pub record BadLine (p : Counts) (text : List ℕ) (e : Refusal) : Type 0 where
   pub begins : (r : Run) (more : List ℕ) → Readable p r → (Lacks line_end (first_line rest) → ⊥) → spell r ≢ front ++ (first_line rest ++ more)
   pub blames : Blames p found (first_field rest) e.condition
 
+-- P holds of no refusal but this one
+abbrev pub Only : (Refusal → Type 0) → Refusal → Type 0
+Only P e = (d : Refusal) → P d → d ≡ e
+
 -- the refusal of a text
 abbrev pub Refused : Counts → List ℕ → Refusal → Type 0
 Refused p text e = MatchBool (nat_lt byte_limit (length text)) ((e.condition ≡ TooMuch) × (e.line ≡ 1)) (BadLine p text e)

@@ -1,14 +1,14 @@
 -- What the functions that write leave in the buffer that is lent, and which run is refused.
-use Rattle.std.specs.Prelude.{◌≡◌, ℕ, ◌+◌, ◌≤◌, ◌⊎◌, List, ◌++◌, length, take, drop, MatchBool, nat_lt}
-use Rattle.arch.specs.declared.call.Call.{Call}
+use Rattle.std.specs.Prelude.{◌≡◌, ℕ, ◌+◌, ◌-◌, ◌^◌, ◌≤◌, ◌⊎◌, List, ◌++◌, length, min, take, drop, MatchBool, nat_lt}
 use Rattle.arch.specs.declared.condition.Condition.{Condition}
 use Rattle.arch.specs.declared.condition.Condition.TheVariants.{TooMuch, BadText}
-use Rattle.arch.specs.declared.record.BlockKey.{BlockKey}
-use Rattle.arch.specs.declared.record.Word.{Word}
 use Rattle.runtext.specs.declared.Counts.{Counts}
 use Rattle.runtext.specs.declared.Refusal.{Refusal}
 use Rattle.runtext.specs.declared.line.Line.{Line}
+use Rattle.runtext.specs.declared.places.Places.{Places}
+use Rattle.runtext.specs.declared.text.Text.{Text}
 use Rattle.runtext.specs.Lines.{kind_of, Sound}
+use Rattle.runtext.specs.Passes.{SamePlaces, Left}
 use Rattle.runtext.specs.Runs.{Run, spell, counts, run_in, Spellable, Spells}
 use Rattle.runtext.specs.Verdicts.{Full, Refused}
 
@@ -17,8 +17,12 @@ pub record Laid (at : ℕ) (bytes before after : List ℕ) (end : ℕ) : Type 0 
   pub ends : end ≡ at + length bytes
   pub text : after ≡ take at before ++ (bytes ++ drop end before)
 
-abbrev pub run_of : List Word → List BlockKey → List Call → Run
-run_of ws ks cs = record { words = ws; keys = ks; calls = cs }
+-- a text after these bytes were added: it is longer by so many, and where its buffer has room for them, they stand there after what it had
+pub record Adds (bytes : List ℕ) (before after : Text) : Type 0 where
+  pub size : after.length ≡ min (before.length + length bytes) (2 ^ 64 - 1)
+  pub same : after.buffer.ghost_name ≡ before.buffer.ghost_name
+  pub room : length after.buffer.now ≡ length before.buffer.now
+  pub laid : before.length + length bytes ≤ length before.buffer.now → Laid before.length bytes before.buffer.now after.buffer.now after.length
 
 -- why this line may not come after those found
 abbrev pub Faulty : Counts → Counts → Line → Condition → Type 0
@@ -57,9 +61,8 @@ pub record Reopened (text before after : List ℕ) (n : ℕ) : Type 0 where
   pub rest : drop n after ≡ drop n before
 
 -- the places after a run was written out and read again: the first n of them have that run, and the others are as they were
-pub record Restored (r : Run) (ws : List Word) (ks : List BlockKey) (cs : List Call) (ws' : List Word) (ks' : List BlockKey) (cs' : List Call) (n : Counts) : Type 0 where
+pub record Restored (r : Run) (p p' : Places) (n : Counts) : Type 0 where
   pub counted : n ≡ counts r
-  pub same : run_in ws' ks' cs' n ≡ r
-  pub words : drop n.words ws' ≡ drop n.words ws
-  pub keys : drop n.keys ks' ≡ drop n.keys ks
-  pub calls : drop n.calls cs' ≡ drop n.calls cs
+  pub same : run_in p' n ≡ r
+  pub lent : SamePlaces p p'
+  pub left : Left n p p'

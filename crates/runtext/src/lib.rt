@@ -1,30 +1,46 @@
 // The reader and the writer of run texts: what a run is made of, in lines of fields.
 #![tactic(auto)]
 
-ghost use Rattle.std.specs.Prelude.{◌≡◌, ◌≤◌, length, take, IfOk, IfErr, OnErr};
+ghost use Rattle.std.specs.Prelude.{◌≡◌, length, take, IfOk, IfErr, OnErr};
 ghost use Rattle.runtext.specs.Passes.{Filled};
-ghost use Rattle.runtext.specs.Runs.{Run, Spellable, Spells, lent, spell};
-ghost use Rattle.runtext.specs.Verdicts.{Refused};
-ghost use Rattle.runtext.specs.Writing.{ReadsBack, Unwritten, Written, run_of};
+ghost use Rattle.runtext.specs.Runs.{HasRoom, Spellable, Unspelt, lent};
+ghost use Rattle.runtext.specs.Verdicts.{Only, Refused};
+ghost use Rattle.runtext.specs.Writing.{ReadsBack, Unwritten, Written};
 
 use arch::call::Call;
 use arch::condition::Condition;
 use arch::record::{BlockKey, Word};
-use out::write_for;
+use places::Places;
+use run::Run;
 use scan::{fill, judge};
+use writing::write_for;
 
 mod cut;
-mod lay;
 mod line;
 mod number;
-mod out;
+pub mod places;
+mod progress;
+pub mod run;
 mod scan;
-mod size;
-mod step;
+mod text;
 pub mod trip;
+mod writing;
+
+// THE LIMITS OF A RUN TEXT. A text past one of them is refused; with as many places of each sort as
+// here, no text is refused for want of a place.
 
 // The most bytes that a text has.
-const BYTES: usize = 65536;
+pub const BYTES: usize = 65536;
+
+// The most doublewords that a run with a text has.
+pub const WORDS: usize = 1024;
+
+// The most block keys that a run with a text has.
+pub const KEYS: usize = 256;
+
+// As many calls as a text has bytes for: a call's line has four bytes or more. No other limit is
+// set to them.
+pub const CALLS: usize = BYTES / 4;
 
 // How many doublewords, keys and calls there are, or places for them.
 #[derive(Clone, Copy, PartialEq, Eq, Debug)]
@@ -37,7 +53,9 @@ pub struct Counts {
 impl Counts {
     // As many as these slices have.
     pub(crate) fn of(words: &[Word], keys: &[BlockKey], calls: &[Call]) -> Counts
-        ensures { result ≡ lent words.now keys.now calls.now }
+        ensures words { result.words ≡ length words.now }
+        ensures keys { result.keys ≡ length keys.now }
+        ensures calls { result.calls ≡ length calls.now }
     {
         Counts {
             words: words.len(),
@@ -46,6 +64,12 @@ impl Counts {
         }
     }
 }
+
+const NO_LINES: Counts = Counts {
+    words: 0,
+    keys: 0,
+    calls: 0,
+};
 
 // Why a text is refused, and on which line, from 1.
 #[derive(Clone, Copy, PartialEq, Eq, Debug)]
@@ -62,40 +86,29 @@ const NO_ROOM: Refusal = Refusal {
 
 // Puts the one run that has this text into the first places of each sort. Where no run that has
 // places enough has it, nothing is altered.
-pub fn read(
-    text: &[u8],
-    words: &mut [Word],
-    keys: &mut [BlockKey],
-    calls: &mut [Call],
-) -> Result<Counts, Refusal>
-    ensures accepted { IfOk result (λ n. Filled text.now words.old keys.old calls.old words.new keys.new calls.new n) }
-    ensures refused { IfErr result (λ e. Refused (lent words.old keys.old calls.old) text.now e) }
-    ensures single { IfErr result (λ e. (d : Refusal) → Refused (lent words.old keys.old calls.old) text.now d → d ≡ e) }
-    ensures complete { OnErr result ((q : Run) → Spells (lent words.old keys.old calls.old) text.now q → ⊥) }
-    ensures unaltered { OnErr result ((words.new ≡ words.old) × (keys.new ≡ keys.old) × (calls.new ≡ calls.old)) }
+pub fn read(text: &[u8], places: &mut Places<'_>) -> Result<Counts, Refusal>
+    ensures accepted { IfOk result (Filled text.now places.old places.new) }
+    ensures refused { IfErr result (Refused (lent places.old) text.now) }
+    ensures single { IfErr result (Only (Refused (lent places.old) text.now)) }
+    ensures complete { OnErr result (Unspelt (lent places.old) text.now) }
+    ensures unaltered { OnErr result (places.new ≡ places.old) }
 {
     if text.len() > BYTES {
         return Err(NO_ROOM);
     }
-    judge(text, Counts::of(words, keys, calls))?;
-    Ok(fill(text, words, keys, calls))
+    judge(text, places.counts())?;
+    Ok(fill(text, places))
 }
 
 // Writes the text of a run into the first bytes of a buffer, and says how many those are. Where the
 // run has no text, or none that the buffer has room for, nothing is altered.
-pub fn write(
-    words: &[Word],
-    keys: &[BlockKey],
-    calls: &[Call],
-    text: &mut [u8],
-) -> Result<usize, Refusal>
-    ensures written { IfOk result (λ n. Written (run_of words.now keys.now calls.now) text.old text.new n) }
-    ensures refused { IfErr result (λ e. Unwritten (length text.old) (run_of words.now keys.now calls.now) e) }
-    ensures single { IfErr result (λ e. (d : Refusal) → Unwritten (length text.old) (run_of words.now keys.now calls.now) d → d ≡ e) }
-    ensures complete { OnErr result (Spellable (run_of words.now keys.now calls.now) → length (spell (run_of words.now keys.now calls.now)) ≤ length text.old → ⊥) }
-    ensures unaltered { OnErr result (text.new ≡ text.old) }
-    ensures again { IfOk result (λ n. ReadsBack (run_of words.now keys.now calls.now) (take n text.new)) }
+pub fn write(run: &Run<'_>, buffer: &mut [u8]) -> Result<usize, Refusal>
+    ensures written { IfOk result (Written run.now buffer.old buffer.new) }
+    ensures refused { IfErr result (Unwritten (length buffer.old) run.now) }
+    ensures single { IfErr result (Only (Unwritten (length buffer.old) run.now)) }
+    ensures complete { OnErr result (Spellable run.now → HasRoom (length buffer.old) run.now → ⊥) }
+    ensures unaltered { OnErr result (buffer.new ≡ buffer.old) }
+    ensures again { IfOk result (λ n. ReadsBack run.now (take n buffer.new)) }
 {
-    let places = Counts::of(words, keys, calls);
-    write_for(words, keys, calls, places, text)
+    write_for(run, run.counts(), buffer)
 }

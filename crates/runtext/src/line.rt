@@ -1,5 +1,5 @@
 // The lines of a run text, and how one is read.
-ghost use Rattle.std.specs.Prelude.{◌≡◌, [], ◌∷◌, Decides};
+ghost use Rattle.std.specs.Prelude.{◌≡◌, ℕ, [], ◌∷◌, Decides};
 ghost use Rattle.runtext.specs.Lines.{letter, access_letter, source_letter, two, call_fields, fields, verb_of, kind_of, Number, SoundCall, Sound};
 ghost use Rattle.runtext.specs.Reading.{Reads};
 
@@ -8,12 +8,15 @@ use crate::number::number;
 use arch::call::{Access, Call, SourceName};
 use arch::record::{BlockKey, Word};
 
+// The first line of a run text.
+pub(crate) const FIRST_LINE: &[u8] = b"RUN\t1\n";
+
 pub(crate) const TAB: u8 = 9;
 
 pub(crate) const LINE_END: u8 = 10;
 
-// Blocks have keys of five bits.
-const KEYS: u64 = 32;
+// Block keys have five bits: each is less than this.
+const KEY_LIMIT: u64 = 32;
 
 // What a line after the first says.
 #[derive(Clone, Copy)]
@@ -42,27 +45,31 @@ pub(crate) enum Verb {
     Purge,
 }
 
-fn verb_of(call: Call) -> Verb
-    ensures { result ≡ verb_of call }
-{
-    match call {
-        Call::LoadControl { .. } => Verb::LoadControl,
-        Call::LoadAccess { .. } => Verb::LoadAccess,
-        Call::LoadMode { .. } => Verb::LoadMode,
-        Call::SetPrefix { .. } => Verb::SetPrefix,
-        Call::Translate { .. } => Verb::Translate,
-        Call::Put { .. } => Verb::Put,
-        Call::Purge { .. } => Verb::Purge,
+impl From<Call> for Verb {
+    ghost from_gives = { λ c v. v ≡ verb_of c };
+
+    fn from(call: Call) -> Verb {
+        match call {
+            Call::LoadControl { .. } => Verb::LoadControl,
+            Call::LoadAccess { .. } => Verb::LoadAccess,
+            Call::LoadMode { .. } => Verb::LoadMode,
+            Call::SetPrefix { .. } => Verb::SetPrefix,
+            Call::Translate { .. } => Verb::Translate,
+            Call::Put { .. } => Verb::Put,
+            Call::Purge { .. } => Verb::Purge,
+        }
     }
 }
 
-pub(crate) fn kind_of(line: Line) -> Kind
-    ensures { result ≡ kind_of line }
-{
-    match line {
-        Line::Doubleword(_) => Kind::Doubleword,
-        Line::Key(_) => Kind::Key,
-        Line::Call(call) => Kind::Call(verb_of(call)),
+impl From<Line> for Kind {
+    ghost from_gives = { λ l k. k ≡ kind_of l };
+
+    fn from(line: Line) -> Kind {
+        match line {
+            Line::Doubleword(_) => Kind::Doubleword,
+            Line::Key(_) => Kind::Key,
+            Line::Call(call) => Kind::Call(Verb::from(call)),
+        }
     }
 }
 
@@ -72,7 +79,7 @@ pub(crate) fn sound(line: Line) -> bool
 {
     match line {
         Line::Doubleword(word) => word.address % 8 == 0,
-        Line::Key(key) => u64::from(key.key) < KEYS,
+        Line::Key(key) => u64::from(key.key) < KEY_LIMIT,
         Line::Call(_) => true,
     }
 }
@@ -81,48 +88,96 @@ pub(crate) fn sound(line: Line) -> bool
 pub(crate) fn lone(field: &[u8]) -> Option<u8>
     ensures { Reads result (λ _. Unit {0}) (λ b. b ∷ []) field.now }
 {
-    if field.len() == 1 {
-        Some(field[0])
-    } else {
-        None
-    }
-}
-
-// The kind that a letter names.
-pub(crate) fn kind_named(b: u8) -> Option<Kind>
-    ensures { Reads result (λ _. Unit {0}) letter b }
-{
-    match b {
-        b'D' => Some(Kind::Doubleword),
-        b'K' => Some(Kind::Key),
-        b'C' => Some(Kind::Call(Verb::LoadControl)),
-        b'A' => Some(Kind::Call(Verb::LoadAccess)),
-        b'M' => Some(Kind::Call(Verb::LoadMode)),
-        b'X' => Some(Kind::Call(Verb::SetPrefix)),
-        b'T' => Some(Kind::Call(Verb::Translate)),
-        b'W' => Some(Kind::Call(Verb::Put)),
-        b'Z' => Some(Kind::Call(Verb::Purge)),
+    match field {
+        [b] => Some(*b),
         _ => None,
     }
 }
 
-fn access_named(b: u8) -> Option<Access>
-    ensures { Reads result (λ _. Unit {0}) access_letter b }
-{
-    match b {
-        b'F' => Some(Access::Fetch),
-        b'S' => Some(Access::Store),
-        _ => None,
+// What a letter stands for.
+pub(crate) trait Letter {
+    ghost spelt: { Self → ℕ };
+
+    fn letter(self) -> u8
+    where
+        Self: Sized,
+        ensures { result ≡ spelt self };
+
+    // What has this letter, if any.
+    fn of_letter(b: u8) -> Option<Self>
+    where
+        Self: Sized,
+        ensures { Reads result (λ _. Unit {0}) spelt b };
+}
+
+impl Letter for Kind {
+    ghost spelt = { letter };
+
+    fn letter(self) -> u8 {
+        match self {
+            Kind::Doubleword => b'D',
+            Kind::Key => b'K',
+            Kind::Call(Verb::LoadControl) => b'C',
+            Kind::Call(Verb::LoadAccess) => b'A',
+            Kind::Call(Verb::LoadMode) => b'M',
+            Kind::Call(Verb::SetPrefix) => b'X',
+            Kind::Call(Verb::Translate) => b'T',
+            Kind::Call(Verb::Put) => b'W',
+            Kind::Call(Verb::Purge) => b'Z',
+        }
+    }
+
+    fn of_letter(b: u8) -> Option<Self> {
+        match b {
+            b'D' => Some(Kind::Doubleword),
+            b'K' => Some(Kind::Key),
+            b'C' => Some(Kind::Call(Verb::LoadControl)),
+            b'A' => Some(Kind::Call(Verb::LoadAccess)),
+            b'M' => Some(Kind::Call(Verb::LoadMode)),
+            b'X' => Some(Kind::Call(Verb::SetPrefix)),
+            b'T' => Some(Kind::Call(Verb::Translate)),
+            b'W' => Some(Kind::Call(Verb::Put)),
+            b'Z' => Some(Kind::Call(Verb::Purge)),
+            _ => None,
+        }
     }
 }
 
-fn source_named(b: u8) -> Option<SourceName>
-    ensures { Reads result (λ _. Unit {0}) source_letter b }
-{
-    match b {
-        b'A' => Some(SourceName::AccessRegister),
-        b'T' => Some(SourceName::Page),
-        _ => None,
+impl Letter for Access {
+    ghost spelt = { access_letter };
+
+    fn letter(self) -> u8 {
+        match self {
+            Access::Fetch => b'F',
+            Access::Store => b'S',
+        }
+    }
+
+    fn of_letter(b: u8) -> Option<Self> {
+        match b {
+            b'F' => Some(Access::Fetch),
+            b'S' => Some(Access::Store),
+            _ => None,
+        }
+    }
+}
+
+impl Letter for SourceName {
+    ghost spelt = { source_letter };
+
+    fn letter(self) -> u8 {
+        match self {
+            SourceName::AccessRegister => b'A',
+            SourceName::Page => b'T',
+        }
+    }
+
+    fn of_letter(b: u8) -> Option<Self> {
+        match b {
+            b'A' => Some(SourceName::AccessRegister),
+            b'T' => Some(SourceName::Page),
+            _ => None,
+        }
     }
 }
 
@@ -151,7 +206,7 @@ fn block_key(bytes: &[u8]) -> Option<Line>
     ensures { Reads result (λ l. Sound l × (kind_of l ≡ Kind.Key)) fields bytes.now }
 {
     let (block, key) = two_numbers(bytes)?;
-    if key < KEYS {
+    if key < KEY_LIMIT {
         Some(Line::Key(BlockKey {
             block,
             key: key as u8,
@@ -175,7 +230,7 @@ fn translate(bytes: &[u8]) -> Option<Call>
 {
     let (first, after) = cut(bytes, TAB);
     let letter = lone(first)?;
-    let access = access_named(letter)?;
+    let access = Access::of_letter(letter)?;
     let (register, address) = two_numbers(after?)?;
     Some(Call::Translate {
         access,
@@ -188,7 +243,7 @@ fn purge(bytes: &[u8]) -> Option<Call>
     ensures { Reads result (λ c. SoundCall c × (verb_of c ≡ Verb.Purge)) call_fields bytes.now }
 {
     let letter = lone(bytes)?;
-    let source = source_named(letter)?;
+    let source = SourceName::of_letter(letter)?;
     Some(Call::Purge { source })
 }
 

@@ -1,5 +1,5 @@
 // Numbers of a run text.
-ghost use Rattle.std.specs.Prelude.{◌^◌, ◌<◌};
+ghost use Rattle.std.specs.Prelude.{◌^◌, ◌<◌, ◌≤◌, ◌≢◌, length, slice_index};
 ghost use Rattle.runtext.specs.Numerals.{hexit, numeral};
 ghost use Rattle.runtext.specs.Reading.{Reads};
 
@@ -17,26 +17,32 @@ fn digit(b: u8) -> Option<u8>
     }
 }
 
+// The number that these digits spell, where they are few enough and no zero leads them.
+fn value(digits: &[u8]) -> Option<u64>
+    requires some { 0 < length digits.now }
+    requires few { length digits.now ≤ 16 }
+    requires lead { slice_index digits.now 0 ≢ 48 }
+    ensures { Reads result (λ n. n < 2 ^ 64) numeral digits.now }
+{
+    let mut n: u64 = 0;
+    for b in digits {
+        n = n * 16 + u64::from(digit(*b)?);
+    }
+    Some(n)
+}
+
 // The number that a whole field spells.
 pub(crate) fn number(field: &[u8]) -> Option<u64>
     ensures { Reads result (λ n. n < 2 ^ 64) numeral field.now }
 {
-    if field.len() == 0 {
-        return None;
-    }
     if field.len() > DIGITS {
         return None;
     }
-    // A zero leads no other digit.
-    if field[0] == b'0' && field.len() > 1 {
-        return None;
+    match field {
+        [] => None,
+        [b'0'] => Some(0),
+        // A zero leads no other digit.
+        [b'0', ..] => None,
+        _ => value(field),
     }
-    if field[0] == b'0' {
-        return Some(0);
-    }
-    let mut n: u64 = 0;
-    for b in field {
-        n = n * 16 + u64::from(digit(*b)?);
-    }
-    Some(n)
 }

@@ -1,61 +1,50 @@
 // The round trips, from a text to its run and back, and from a run to its text and back.
 ghost use Rattle.std.specs.Prelude.{◌≡◌, ℕ, ◌≤◌, length, IfOk, IfErr, OnErr, OnOk};
 ghost use Rattle.runtext.specs.Passes.{Filled};
-ghost use Rattle.runtext.specs.Runs.{Readable, Run, Spells, lent, spell};
-ghost use Rattle.runtext.specs.Writing.{RefusedIn, Reopened, Restored, Written, run_of};
+ghost use Rattle.runtext.specs.Runs.{HasRoom, Readable, Unspelt, lent, spell};
+ghost use Rattle.runtext.specs.Verdicts.{Only};
+ghost use Rattle.runtext.specs.Writing.{RefusedIn, Reopened, Restored, Written};
 
-use crate::out::write_for;
+use crate::places::Places;
+use crate::run::Run;
+use crate::writing::write_for;
 use crate::{Counts, NO_ROOM, Refusal, read, write};
-use arch::call::Call;
-use arch::record::{BlockKey, Word};
 
-// Reads a text and writes its run out again into a buffer: the same bytes. Where the text is refused
-// or the buffer is shorter, nothing is altered.
-pub fn reopened(
-    text: &[u8],
-    words: &mut [Word],
-    keys: &mut [BlockKey],
-    calls: &mut [Call],
-    copy: &mut [u8],
-) -> Result<usize, Refusal>
-    ensures same { IfOk result (λ n. Reopened text.now copy.old copy.new n) }
-    ensures filled { OnOk result ((m : Counts) × Filled text.now words.old keys.old calls.old words.new keys.new calls.new m) }
-    ensures refused { IfErr result (λ e. RefusedIn (length copy.old) (lent words.old keys.old calls.old) text.now e) }
-    ensures single { IfErr result (λ e. (d : Refusal) → RefusedIn (length copy.old) (lent words.old keys.old calls.old) text.now d → d ≡ e) }
-    ensures complete { OnErr result ((q : Run) → Spells (lent words.old keys.old calls.old) text.now q → length text.now ≤ length copy.old → ⊥) }
-    ensures unaltered { OnErr result ((words.new ≡ words.old) × (keys.new ≡ keys.old) × (calls.new ≡ calls.old) × (copy.new ≡ copy.old)) }
+// Reads a text and writes its run out again into a buffer: the same bytes. Where the text is
+// refused or the buffer is shorter, nothing is altered.
+pub fn reopened(text: &[u8], places: &mut Places<'_>, copy: &mut [u8]) -> Result<usize, Refusal>
+    ensures same { IfOk result (Reopened text.now copy.old copy.new) }
+    ensures filled { OnOk result ((m : Counts) × Filled text.now places.old places.new m) }
+    ensures refused { IfErr result (RefusedIn (length copy.old) (lent places.old) text.now) }
+    ensures single { IfErr result (Only (RefusedIn (length copy.old) (lent places.old) text.now)) }
+    ensures complete { OnErr result
+        (length text.now ≤ length copy.old → Unspelt (lent places.old) text.now) }
+    ensures unaltered { OnErr result ((places.new ≡ places.old) × (copy.new ≡ copy.old)) }
 {
     if copy.len() < text.len() {
         return Err(NO_ROOM);
     }
-    let found = read(text, words, keys, calls)?;
-    let Counts {
-        words: w,
-        keys: k,
-        calls: c,
-    } = found;
-    write(&words[0..w], &keys[0..k], &calls[0..c], copy)
+    let found = read(text, places)?;
+    write(&places.run(found), copy)
 }
 
 // Writes a run out into a buffer and reads it from there again: the same run. Where its text is
 // refused, for the buffer or for the places that it is read into, nothing is altered.
 pub fn restored(
-    words: &[Word],
-    keys: &[BlockKey],
-    calls: &[Call],
-    text: &mut [u8],
-    words_again: &mut [Word],
-    keys_again: &mut [BlockKey],
-    calls_again: &mut [Call],
+    run: &Run<'_>,
+    buffer: &mut [u8],
+    places: &mut Places<'_>,
 ) -> Result<Counts, Refusal>
-    ensures same { IfOk result (λ n. Restored (run_of words.now keys.now calls.now) words_again.old keys_again.old calls_again.old words_again.new keys_again.new calls_again.new n) }
-    ensures written { OnOk result ((k : ℕ) × Written (run_of words.now keys.now calls.now) text.old text.new k) }
-    ensures refused { IfErr result (λ e. RefusedIn (length text.old) (lent words_again.old keys_again.old calls_again.old) (spell (run_of words.now keys.now calls.now)) e) }
-    ensures single { IfErr result (λ e. (d : Refusal) → RefusedIn (length text.old) (lent words_again.old keys_again.old calls_again.old) (spell (run_of words.now keys.now calls.now)) d → d ≡ e) }
-    ensures complete { OnErr result (Readable (lent words_again.old keys_again.old calls_again.old) (run_of words.now keys.now calls.now) → length (spell (run_of words.now keys.now calls.now)) ≤ length text.old → ⊥) }
-    ensures unaltered { OnErr result ((text.new ≡ text.old) × (words_again.new ≡ words_again.old) × (keys_again.new ≡ keys_again.old) × (calls_again.new ≡ calls_again.old)) }
+    ensures same { IfOk result (Restored run.now places.old places.new) }
+    ensures written { OnOk result ((k : ℕ) × Written run.now buffer.old buffer.new k) }
+    ensures refused { IfErr result
+        (RefusedIn (length buffer.old) (lent places.old) (spell run.now)) }
+    ensures single { IfErr result
+        (Only (RefusedIn (length buffer.old) (lent places.old) (spell run.now))) }
+    ensures complete { OnErr result
+        (Readable (lent places.old) run.now → HasRoom (length buffer.old) run.now → ⊥) }
+    ensures unaltered { OnErr result ((buffer.new ≡ buffer.old) × (places.new ≡ places.old)) }
 {
-    let places = Counts::of(words_again, keys_again, calls_again);
-    let n = write_for(words, keys, calls, places, text)?;
-    read(&text[0..n], words_again, keys_again, calls_again)
+    let n = write_for(run, places.counts(), buffer)?;
+    read(&buffer[0..n], places)
 }

@@ -1,7 +1,6 @@
 -- One changed record of a sparse storage is one changed doubleword of what it means.
-use Rattle.std.proofs.Common.{◌≡◌, ℕ, ◌<◌, ◌≤◌, Bool, true, false, cond, eqb, ltb, List, [], ◌∷◌, length, get_or, set, slice_index_or, slice_set, is_some, Some, None, Ok, Err, Option, Result, sym, refl, arith}
+use Rattle.std.proofs.Common.{◌≡◌, ℕ, ◌<◌, ◌≤◌, Bool, true, false, cond, eqb, ltb, List, [], ◌∷◌, length, get_or, set, slice_index_or, slice_set, is_some, Some, None, Ok, Err, Option, Result, refl, arith}
 use Rattle.std.specs.List.{position_or_len}
-use Rattle.std.proofs.lemmas.Bool.{ltb-true, ltb-false, eqb-true}
 use Rattle.std.proofs.lemmas.Bool.Decides.{nat_tests}
 use mathlib.Core.Path.{fun_ext}
 use Rattle.std.specs.Option.{option_map}
@@ -43,24 +42,16 @@ abbrev Put : List Word → ℕ → ℕ → Result (Unit {0}) Condition → List 
 Put ws a x result after = record { result : result ≡ cond (is_some (value_at ws a)) (Ok tt) (Err Addressing); after : after ≡ with_value ws a x }
 
 pub put_found : (ws : List Word) (a x i : ℕ) → Some i ≡ searched ws a → Put ws a x (Ok tt) (slice_set ws i (record { address = (slice_index_or ws i none).address; value = x }))
-put_found ws a x i found = by (ltb (place ws a) (length ws)) refl
-  where
-    by : (t : Bool) → t ≡ ltb (place ws a) (length ws) → Put ws a x (Ok tt) (slice_set ws i (record { address = (slice_index_or ws i none).address; value = x }))
-    by true e =
-        let has = has_first ws a in
-        let here : i ≡ place ws a = cc in
-        let within = ltb-true (place ws a) (length ws) (sym e) in
-        record { result = cc; after = rw here (set_first ws a x within) }
-    by false e = absurd cc
+put_found ws a x i found =
+    let has = has_first ws a in
+    let set = set_first ws a x in
+    record { result = grind (arith, nat_tests, has); after = grind (arith, nat_tests, set) }
 
 pub put_missing : (ws : List Word) (a x : ℕ) → None ≡ searched ws a → Put ws a x (Err Addressing) ws
-put_missing ws a x missing = by (ltb (place ws a) (length ws)) refl
-  where
-    by : (t : Bool) → t ≡ ltb (place ws a) (length ws) → Put ws a x (Err Addressing) ws
-    by true e = absurd cc
-    by false e =
-        let has = has_first ws a in
-        record { result = cc; after = sym (none_set ws a x (ltb-false (place ws a) (length ws) (sym e))) }
+put_missing ws a x missing =
+    let has = has_first ws a in
+    let same = none_set ws a x in
+    record { result = grind (arith, nat_tests, has); after = grind (arith, nat_tests, same) }
 
 word_with : (k v : Option ℕ) (x : ℕ) → is_some (only_with k v) ≡ true → only_with k (option_map (λ _. x) v) ≡ Some x
 word_with None v x e = absurd cc
@@ -69,23 +60,10 @@ word_with (Some k) (Some v) x e = refl
 
 -- the records of a put that has a key for its block
 pub words_put : (ws : List Word) (ks : List BlockKey) (a x : ℕ) → is_some (key_at ks (block_of a)) ≡ true → with_value ws a x ≡ words_after ws ks a x
-words_put ws ks a x keyed = by (key_at ks (block_of a)) (value_at ws a) refl keyed
-  where
-    by : (k v : Option ℕ) → v ≡ value_at ws a → is_some k ≡ true → with_value ws a x ≡ cond (is_some (only_with k v)) (with_value ws a x) ws
-    by None v e h = absurd cc
-    by (Some k) (Some v) e h = refl
-    by (Some k) None e h = let has = has_first ws a in none_set ws a x (ltb-false (place ws a) (length ws) cc)
+words_put ws ks a x keyed = let has = has_first ws a in let same = none_set ws a x in grind (arith, nat_tests, has, same)
 
 word_after : (ws : List Word) (ks : List BlockKey) (a x b : ℕ) → (sparse_view (words_after ws ks a x) ks).word b ≡ (after_put (sparse_view ws ks) a x).word b
-word_after ws ks a x b = by (is_some ((sparse_view ws ks).word a)) refl
-  where
-    by : (t : Bool) → t ≡ is_some ((sparse_view ws ks).word a) → only_with (key_at ks (block_of b)) (value_at (cond t (with_value ws a x) ws) b) ≡ (cond t (stored (sparse_view ws ks) a x) (sparse_view ws ks)).word b
-    by false e = refl
-    by true e = rw (value_with ws a x b) (at_b (eqb b a) refl)
-      where
-        at_b : (u : Bool) → u ≡ eqb b a → only_with (key_at ks (block_of b)) (cond u (option_map (λ _. x) (value_at ws a)) (value_at ws b)) ≡ cond u (Some x) (only_with (key_at ks (block_of b)) (value_at ws b))
-        at_b false f = refl
-        at_b true f = rw (eqb-true b a (sym f)) (word_with (key_at ks (block_of a)) (value_at ws a) x (sym e))
+word_after ws ks a x b = let with = value_with ws a x b in let present = word_with (key_at ks (block_of a)) (value_at ws a) x in grind (arith, nat_tests, with, present)
 
 pub view_after : (ws : List Word) (ks : List BlockKey) (a x : ℕ) → sparse_view (words_after ws ks a x) ks ≡ after_put (sparse_view ws ks) a x
 view_after ws ks a x = by (is_some ((sparse_view ws ks).word a)) (λ b. word_after ws ks a x b)

@@ -10,17 +10,14 @@ use Rattle.storage.specs.Views.{View, block_of}
 abbrev pub value_at : List Word → ℕ → Option ℕ
 value_at ws a = option_map (λ w. w.value) (find (λ w. nat_eq w.address a) ws)
 
--- the key of the first record of a block, whatever it is
-abbrev pub listed_key : List BlockKey → ℕ → Option ℕ
-listed_key ks b = option_map (λ k. k.key) (find (λ k. nat_eq k.block b) ks)
-
 -- a key above 1f counts as none
-abbrev pub lawful_key : Option ℕ → Option ℕ
+abbrev pub lawful_key : Option BlockKey → Option ℕ
 lawful_key None = None
-lawful_key (Some k) = cond (nat_lt k 32) (Some k) None
+lawful_key (Some k) = cond (nat_lt k.key 32) (Some k.key) None
 
+-- the key of the first record of a block
 abbrev pub key_at : List BlockKey → ℕ → Option ℕ
-key_at ks b = lawful_key (listed_key ks b)
+key_at ks b = lawful_key (find (λ k. nat_eq k.block b) ks)
 
 abbrev pub only_with : {A : Type 0} → Option ℕ → Option A → Option A
 only_with None v = None

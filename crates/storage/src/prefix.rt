@@ -2,7 +2,7 @@
 // at the prefix. Addresses above the layer are real, those beneath it absolute.
 ghost use Rattle.std.specs.Prelude.{◌≡◌, ◌+◌, ◌/◌, ◌^◌, ◌<◌, true, false, if◌then◌else◌, None, Ok, Err};
 ghost use Rattle.arch.specs.declared.condition.Condition.TheVariants.{BadPrefix};
-ghost use Rattle.storage.specs.Keyed.{prefixed_keyed};
+ghost use Rattle.storage.specs.Keyed.{lawful_even, prefixed_keyed};
 ghost use Rattle.storage.specs.Prefixes.{absolute, absolute_block, exchange, lawful_prefix, prefixed};
 ghost use Rattle.storage.specs.Views.{after_put, put_result};
 
@@ -133,8 +133,6 @@ impl<S> Prefixed<S> {
 impl<S: Storage> Storage for Prefixed<S> {
     ghost view = { λ s. prefixed s.prefix (S.view s.beneath) };
 
-    ghost keyed = { λ s. prefixed_keyed s.prefix (S.view s.beneath) s.lawful (S.keyed s.beneath) };
-
     fn fetch(&self, address: u64) -> Option<u64> {
         self.beneath.fetch(self.prefix.absolute(address))
     }
@@ -157,4 +155,6 @@ impl<S: Storage> Storage for Prefixed<S> {
     {
         self.beneath.put(self.prefix.absolute(address), value)
     }
+
+    ghost keyed = { λ s. prefixed_keyed s.prefix (S.view s.beneath) (lawful_even s.prefix s.lawful) (S.keyed s.beneath) };
 }

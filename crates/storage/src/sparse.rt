@@ -1,8 +1,9 @@
 // The sparse storage: lent records of values and of block keys.
-ghost use Rattle.std.specs.Prelude.{◌≡◌, is_some, if◌then◌else◌, None, Ok, Err};
+ghost use Rattle.std.specs.Prelude.{◌≡◌, find, is_some, nat_eq, if◌then◌else◌, None, Ok, Err};
+ghost use Rattle.std.specs.Option.{option_map};
 ghost use Rattle.arch.specs.declared.condition.Condition.TheVariants.{Addressing};
 ghost use Rattle.storage.specs.Keyed.{sparse_keyed};
-ghost use Rattle.storage.specs.Records.{value_at, listed_key, key_at, with_value, words_after, sparse_view};
+ghost use Rattle.storage.specs.Records.{value_at, key_at, with_value, words_after, sparse_view};
 ghost use Rattle.storage.specs.Views.{after_put, put_result};
 
 use crate::storage::{BLOCK_BYTES, Storage};
@@ -25,16 +26,16 @@ fn first_value(words: &[Word], address: u64) -> Option<u64>
         .map(|word| word.value)
 }
 
-// The key of the first record of `block`, whatever it is.
+// What the first record of `block` says that its key is.
 fn listed_key(keys: &[BlockKey], block: u64) -> Option<u8>
-    ensures { result ≡ listed_key keys.now block }
+    ensures { result ≡ option_map (λ k. k.key) (find (λ k. nat_eq k.block block) keys.now) }
 {
     keys.iter()
         .find(|entry| entry.block == block)
         .map(|entry| entry.key)
 }
 
-// The same, where it is a key: above 1f it counts as none, whatever comes later.
+// The key of the first record of `block`. A key above 1f counts as none, whatever comes later.
 fn first_key(keys: &[BlockKey], block: u64) -> Option<u8>
     ensures { result ≡ key_at keys.now block }
 {
@@ -58,8 +59,6 @@ fn set_value(words: &mut [Word], address: u64, value: u64) -> Result<(), Conditi
 
 impl Storage for Sparse<'_, '_> {
     ghost view = { λ s. sparse_view s.words.now s.keys.now };
-
-    ghost keyed = { λ s. sparse_keyed s.words.now s.keys.now };
 
     fn fetch(&self, address: u64) -> Option<u64> {
         first_key(self.keys, address / BLOCK_BYTES)?;
@@ -85,4 +84,6 @@ impl Storage for Sparse<'_, '_> {
         first_key(self.keys, address / BLOCK_BYTES).ok_or(Condition::Addressing)?;
         set_value(self.words, address, value)
     }
+
+    ghost keyed = { λ s. sparse_keyed s.words.now s.keys.now };
 }

@@ -11,9 +11,6 @@ pub trait Storage {
     // Which doublewords are present, their values, and the key of each block that has one.
     ghost view: { Self → View };
 
-    // A present doubleword's block has a key, and every key is 0 to 1f.
-    ghost keyed: { (s : Self) → Keyed (view s) };
-
     // The value of the doubleword at `address`, or None where it is absent.
     fn fetch(&self, address: u64) -> Option<u64>
         ensures { result ≡ (view self.now).word address };
@@ -27,4 +24,7 @@ pub trait Storage {
         ensures result { result ≡ put_result (view self.old) address }
         ensures after { view self.new ≡ after_put (view self.old) address value }
         ensures refused { (view self.old).word address ≡ None → self.new ≡ self.old };
+
+    // A present doubleword's block has a key, and every key is 0 to 1f.
+    ghost keyed: { (s : Self) → Keyed (view s) };
 }

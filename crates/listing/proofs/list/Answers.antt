@@ -1,5 +1,5 @@
 use Rattle.std.proofs.Common.{◌≡◌, length, IfOk, string_bytes, ◌∙◌, subst, rules}
-use Rattle.runtext.specs.Runs.{lent}
+use Rattle.runtext.specs.declared.Counts.{Counts}
 use Rattle.std.proofs.lemmas.Result.{IfOk-from_err}
 use Rattle.listing.specs.Listings.{places, Lists}
 use Rattle.listing.proofs.Room.{room_for_all}
@@ -20,7 +20,7 @@ returns g c =
     let words : length c.deref_mut.result.now ≡ 1024 = c.deref_mut.ensures.len ∙ c.in_ok-words.ensures.len in
     let keys : length c.deref_mut-2.result.now ≡ 256 = c.deref_mut-2.ensures.len ∙ c.in_ok-keys.ensures.len in
     let calls : length c.deref_mut-3.result.now ≡ 16384 = c.deref_mut-3.ensures.len ∙ c.in_ok-calls.ensures.len in
-    let all : lent c.deref_mut.result.now c.deref_mut-2.result.now c.deref_mut-3.result.now ≡ places = λ i. record { words = words i; keys = keys i; calls = calls i } in
+    let all : ◌≡◌ {A = Counts} (record { words = length c.deref_mut.result.now; keys = length c.deref_mut-2.result.now; calls = length c.deref_mut-3.result.now }) places = λ i. record { words = words i; keys = keys i; calls = calls i } in
     record {
       lists = subst (λ p. IfOk c.list_within.result (λ out. Lists g.A.Source g.P.Source p c.args.text.now (string_bytes out) c.args.sources.now c.list_within.new.sources)) all c.list_within.ensures;
       room = room_for_all;

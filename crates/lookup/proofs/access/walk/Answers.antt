@@ -5,11 +5,6 @@ use Rattle.lookup.specs.Access.{aste_origin}
 use Rattle.lookup.proofs.Checked.{read_at, answer_step}
 use Rattle.lookup.proofs.access.walk.Goals as goal
 
-pub returns-in_err-at : goal.returns-in_err-at
-returns-in_err-at g c =
-    let p = err_from_is_err_and c.from_residual.result c.from_residual.ensures.1 in
-    rw (p.1, p.2) (walk_out _ 6 c.in_err-at.ensures.walked)
-
 pub returns-in_err-found : goal.returns-in_err-found
 returns-in_err-found g c =
     let p = err_from_is_err_and c.from_residual-in_err-found.result c.from_residual-in_err-found.ensures.1 in

@@ -1,22 +1,13 @@
-use Rattle.std.proofs.Common.{◌≡◌, ◌+◌, ◌∷◌, ◌++◌, take, drop, sym, refl, ap, ◌∙◌, subst, arith, take-append-drop}
-use native.Mathlib.Nat.{sub-zero}
-use Rattle.std.proofs.ByRecursion.{All-more}
-use Rattle.std.proofs.lemmas.List.{drop_more, take_rest, take_all}
-use Rattle.runtext.specs.Reading.{Lacks}
+use Rattle.std.proofs.Common.{sym, ◌∙◌}
+use Rattle.std.proofs.lemmas.List.{take_rest}
+use Rattle.runtext.proofs.Cuts.{lacks_before, lacks_all, split_at}
 use Rattle.runtext.proofs.cut.cut.Goals as goal
 
-pub returns-then-b-at : goal.returns-then-b-at
-returns-then-b-at c =
-    let bs = c.args.bytes.now in
-    let i = c.loop-i.i in
-    let more = drop_more bs i 0 c.loop-i-test.true in
-    record {
-      lacks = simp sub-zero c.loop-i.invariant;
-      parts = simp (sub-zero, take_rest) (sym (take-append-drop i bs) ∙ ap (λ l. take i bs ++ l) more ∙ ap (λ b. take i bs ++ (b ∷ drop (i + 1) bs)) c.if-b-at.true);
-    }
+pub returns-in-Some-clause-lacks : goal.returns-in-Some-clause-lacks
+returns-in-Some-clause-lacks c = lacks_before c.args.at c.args.bytes.now c.in-Some.i (sym c.first.ensures ∙ c.in-Some.is)
 
-pub loop-i-preserved : goal.loop-i-preserved
-loop-i-preserved c = All-more (λ b. b ≡ c.args.at → ⊥) c.args.bytes.now c.loop-i.i 0 (omega arith) c.loop-i.invariant c.if-b-at.false
+pub returns-in-None-clause-lacks : goal.returns-in-None-clause-lacks
+returns-in-None-clause-lacks c = lacks_all c.args.at c.args.bytes.now (sym c.first.ensures ∙ c.in-None.is)
 
-pub returns : goal.returns
-returns c = record { lacks = subst (Lacks c.args.at) (take_all _ c.args.bytes.now (omega arith)) c.loop-i.invariant; parts = refl }
+pub returns-in-Some-clause-parts : goal.returns-in-Some-clause-parts
+returns-in-Some-clause-parts c = simp take_rest (split_at c.args.at c.args.bytes.now c.in-Some.i (sym c.first.ensures ∙ c.in-Some.is))

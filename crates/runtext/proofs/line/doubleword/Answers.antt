@@ -12,4 +12,4 @@ returns-in_err-address c = rw c.from_residual.ensures (λ l v e.
 pub returns-else-address-eq0 : goal.returns-else-address-eq0
 returns-else-address-eq0 c = λ l v e.
     by_kind (λ l. Sound l → fields l ≡ c.args.bytes.now → ⊥) Doubleword (λ w s f.
-    c.if-address-eq0.false (ap (λ n. n % 8) (two_same _ _ w.address w.value (c.in_ok-address.ensures.1 ∙ sym f)).0 ∙ s.2)) l v.1 v.0 e
+    c.if-address-eq0.false (ap (λ n. n % 8) (two_same _ _ w.address w.value c.in_ok-address.ensures.0.0 c.in_ok-address.ensures.0.1 (c.in_ok-address.ensures.1 ∙ sym f)).0 ∙ s.2)) l v.1 v.0 e

@@ -1,8 +1,0 @@
-use Rattle.std.proofs.Common.{◌≡◌, ◌^◌, ◌<◌, map, take}
-use Rattle.std.specs.Int.Digits.{digits_of}
-use Rattle.runtext.specs.Numerals.{hexit}
-use Rattle.runtext.proofs.number.number.Given as goal
-
-abbrev pub invariant-loop-b : goal.invariant-loop-b
-invariant-loop-b l =
-    (map hexit (digits_of 16 l.n) ≡ take l.b-index l.field) × (l.n < 16 ^ l.b-index) × (0 < l.b-index → 0 < l.n)

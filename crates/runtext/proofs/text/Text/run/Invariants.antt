@@ -1,0 +1,12 @@
+use Rattle.std.proofs.Common.{◌≡◌, ◌++◌}
+use Rattle.std.specs.List.{flat_map}
+use Rattle.runtext.specs.Lines.{spell_line}
+use Rattle.runtext.specs.Runs.{lines, lines_left}
+use Rattle.runtext.specs.Writing.{Adds}
+use Rattle.runtext.proofs.text.Text.run.Given as goal
+
+abbrev pub invariant-loop-line : goal.invariant-loop-line
+invariant-loop-line l = record {
+  all : l.yielded ++ lines_left l.line-iterator ≡ lines l.run;
+  added : Adds (flat_map spell_line l.yielded) l.initial.self l.self;
+}
