@@ -1,4 +1,5 @@
-// The two kinds of lookup.
+// The two kinds of lookup. Each impl spells the fields of its own key and answer: one for both
+// would need a trait for those fields that is as long.
 ghost use Rattle.lookup.specs.Access.{AccessFits};
 ghost use Rattle.lookup.specs.Orders.{access_conditions, access_finds, page_conditions, page_finds};
 ghost use Rattle.lookup.specs.Laws.{access_sees_only_its_trace, page_sees_only_its_trace};

@@ -67,7 +67,9 @@ impl Table {
     }
 }
 
-// What is met where a table of a level has no valid entry: 0 segment, 1 to 3 the regions.
+// What is met where a table of a level has no valid entry: 0 segment, 1 to 3 the regions. A level
+// stays a number: it is the table type that an entry carries, and the place of an index is computed
+// from it.
 fn condition_of(level: u8) -> Condition
     ensures { result ≡ level_condition level }
 {

@@ -1,4 +1,5 @@
-// The steps that both lookups are made of.
+// The steps that both lookups are made of. Storage and trace go side by side through them: a struct
+// of both borrows is no plainer, since each step would have to say what it leaves of each.
 ghost use Rattle.std.specs.Prelude.{◌≡◌, ◌^◌, ◌<◌, ◌≤◌, length};
 ghost use Rattle.arch.specs.Walks.{Walks, read as reading};
 ghost use Rattle.lookup.specs.Checks.{checked};
