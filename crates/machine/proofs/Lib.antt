@@ -6,3 +6,4 @@ pub mod InOrder
 pub mod Reported
 pub mod Results
 pub mod Sound
+pub mod Starts

@@ -18,8 +18,10 @@ use Rattle.machine.specs.Scene.{AccessSource, PageSource, Scene, ask_access, ask
 use Rattle.machine.specs.Translation.{unless, cut, mode_asks, page_asked, space_by_mode, translation}
 use Rattle.machine.specs.Turns.{AsksAccess, AsksPage}
 
--- what a call gives and lists, and which key it asks each source for, by what it sees
+-- what a call gives and lists, whether it is refused before it asks, and which key it asks each source for, by what it
+-- sees
 pub record Translating (X : Type 0) : Type 0 where
+  pub refused : Bool
   pub gives : Scene → Traced X
   pub access_key : Scene → Option AccessKey
   pub page_key : Scene → Option PageKey
@@ -41,6 +43,7 @@ refuses_translation o places = nat_lt 15 o.register || nat_lt places 12
 
 abbrev pub translates : Access → Operand → ℕ → Translating ℕ
 translates access o places = record {
+  refused = refuses_translation o places;
   gives = λ n. translation n.registers (ask_access n) (ask_page n) n.real access o places;
   access_key = λ n. unless_refused (refuses_translation o places) (access_key_asked n o);
   page_key = λ n. unless_refused (refuses_translation o places) (page_key_asked n access o);
@@ -53,6 +56,7 @@ refuses_access o places = nat_lt 15 o.register || (not (o.address % 8 == 0) || n
 -- the translation that a fetch or a store makes: its refusals, and then the translation
 abbrev pub accesses : Access → Operand → ℕ → Translating ℕ
 accesses access o places = record {
+  refused = refuses_access o places;
   gives = λ n.
       then (unless BadNumber (nat_lt 15 o.register))
       (λ _. then (unless Unaligned (not (o.address % 8 == 0)))
@@ -74,6 +78,7 @@ value_there (Some x) = Ok x
 -- a translation, and then the doubleword there
 abbrev pub fetches : Operand → ℕ → Translating ℕ
 fetches o places = record {
+  refused = refuses_access o places;
   gives = λ n. then ((accesses Fetch o places).gives n) (λ real. plainly (value_there (n.real.word real)));
   access_key = (accesses Fetch o places).access_key;
   page_key = (accesses Fetch o places).page_key;
@@ -81,6 +86,7 @@ fetches o places = record {
 
 abbrev pub stores : Operand → ℕ → Translating (Unit {0})
 stores o places = record {
+  refused = refuses_access o places;
   gives = λ n. then ((accesses Store o places).gives n) (λ real. plainly (put_answer n.real real));
   access_key = (accesses Store o places).access_key;
   page_key = (accesses Store o places).page_key;

@@ -1,5 +1,5 @@
 -- All that a call does, by what it sees.
-use Rattle.std.specs.Prelude.{◌≡◌, ℕ, cond, length, Some, None, Ok, Err, Option}
+use Rattle.std.specs.Prelude.{◌≡◌, ℕ, ◌%◌, ◌==◌, cond, length, Some, None, Ok, Err, Option}
 use Rattle.std.specs.Option.{unwrap_or}
 use Rattle.arch.specs.declared.call.Call.{Call}
 use Rattle.arch.specs.declared.call.Call.TheVariants as call
@@ -41,17 +41,18 @@ turn_of None = left
 turn_of (Some k) = asked_for k
 
 -- what comes of a call, the registers after it, the doubleword that it puts at a real address where that is present,
--- and its turn at each source
+-- the prefix that it leaves the layer at, none where the whole storage is left, and its turn at each source
 pub record Effect : Type 0 where
   pub outcome : Outcome
   pub registers : Registers
   pub puts : Option Word
+  pub layer : Option ℕ
   pub access : Turn AccessKey
   pub page : Turn PageKey
 
 -- a call that says this, and does nothing else
 abbrev pub says : Registers → Outcome → Effect
-says r o = record { outcome = o; registers = r; puts = None; access = left; page = left }
+says r o = record { outcome = o; registers = r; puts = None; layer = None; access = left; page = left }
 
 -- a load of registers
 abbrev pub loads : Registers → Option Registers → Effect
@@ -60,7 +61,7 @@ loads r loaded = record (says r (outcome.Loaded (load_result loaded))) { registe
 -- a new prefix purges both sources
 abbrev pub sets_prefix : Registers → ℕ → Effect
 sets_prefix r p = cond (lawful_prefix p)
-    (record { outcome = outcome.Loaded (Ok tt); registers = record r { prefix = p }; puts = None; access = purged; page = purged })
+    (record { outcome = outcome.Loaded (Ok tt); registers = record r { prefix = p }; puts = None; layer = Some p; access = purged; page = purged })
     (says r (outcome.Loaded (Err BadPrefix)))
 
 abbrev pub purges : Registers → SourceName → Effect
@@ -72,7 +73,7 @@ counted t = record { result = t.result; count = length t.trace }
 
 -- a call that translates
 abbrev pub translating : {X : Type 0} → Translating X → (Counted X → Outcome) → Scene → Effect
-translating c outcome n = record (says n.registers (outcome (counted (c.gives n)))) { access = turn_of (c.access_key n); page = turn_of (c.page_key n) }
+translating c outcome n = record (says n.registers (outcome (counted (c.gives n)))) { layer = cond c.refused None (Some n.registers.prefix); access = turn_of (c.access_key n); page = turn_of (c.page_key n) }
 
 -- a call of `runs` has this many places for its list
 abbrev pub places : ℕ
@@ -85,7 +86,7 @@ line_effect (call.LoadAccess register value) n = loads n.registers (with_access 
 line_effect (call.LoadMode mode size key) n = loads n.registers (with_mode mode size key n.registers)
 line_effect (call.SetPrefix p) n = sets_prefix n.registers p
 line_effect (call.Translate access register address) n = translating (translates access (record { register = register; address = address }) places) outcome.Translated n
-line_effect (call.Put a x) n = record (says n.registers (outcome.Put (put_answer n.real a))) { puts = put_of a x }
+line_effect (call.Put a x) n = record (says n.registers (outcome.Put (put_answer n.real a))) { puts = put_of a x; layer = cond (a % 8 == 0) (Some n.registers.prefix) None }
 line_effect (call.Purge source) n = purges n.registers source
 
 -- any call
@@ -108,6 +109,11 @@ TurnsAccess a real turn before after = Turns AccessFits (access_fresh real.word)
 abbrev pub TurnsPage : {P : Type 0} → PageSource P → View → Turn PageKey → P → P → Type 0
 TurnsPage p real turn before after = Turns PageFits (page_fresh real.word) p.holds p.after_ask p.after_purge turn before after
 
+-- the layer at the prefix that a call leaves it at, or the storage as it was
+abbrev pub LayerLeft : {S : Type 0} → Option ℕ → Prefixed S → Prefixed S → Type 0
+LayerLeft None before after = after ≡ before
+LayerLeft (Some prefix) before after = after.prefix ≡ prefix
+
 module _ {S A P : Type 0} (s : StorageGhosts S) (a : AccessSource A) (p : PageSource P) (c : Request) (r : Registers) (t : Prefixed S) (b : Sources A P) where
   abbrev pub sees : Scene
   sees = scene s a p r t b
@@ -120,5 +126,7 @@ module _ {S A P : Type 0} (s : StorageGhosts S) (a : AccessSource A) (p : PageSo
     pub outcome : o ≡ effect.outcome
     pub registers : r' ≡ effect.registers
     pub storage : s.view t'.beneath ≡ after_puts_under r.prefix effect.puts (s.view t.beneath)
+    pub beneath : effect.puts ≡ None → t'.beneath ≡ t.beneath
+    pub layer : LayerLeft effect.layer t t'
     pub access : TurnsAccess a sees.real effect.access b.access b'.access
     pub page : TurnsPage p sees.real effect.page b.page b'.page

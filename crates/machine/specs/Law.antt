@@ -199,6 +199,10 @@ pub record Stands (s : State) (r : Registers) (v : View) (holds : Held) : Type 0
   pub view : v ≡ s.view
   pub sound : AreSound (since (seen_now s) s.past) holds
 
+-- so after the new call, over a storage of any view
+abbrev pub StandsAtStart : Registers → Held → Type 0
+StandsAtStart r holds = (v : View) → Stands (start v) r v holds
+
 -- A single call that translates, after this past of the sources: every answer shown was fresh at one of the moments
 -- since the latest purge, what it gives is what it gives with bare sources where nothing changed, and every pair held
 -- afterwards was fresh at one of these moments too.

@@ -1,5 +1,5 @@
 // Fetch and store: a translation, and then the doubleword.
-ghost use Rattle.std.specs.Prelude.{◌≡◌, length};
+ghost use Rattle.std.specs.Prelude.{◌≡◌, length, None};
 ghost use Rattle.arch.specs.declared.call.Access.TheVariants.{Fetch, Store};
 ghost use Rattle.machine.specs.Calls.{FetchesThere, Makes, StoresThere, accesses, fetches, refuses_access, stored_word, stores, value_there};
 ghost use Rattle.machine.specs.Law.{AnswersFresh};
@@ -125,6 +125,9 @@ impl Machine {
             (stored_word operand (length list.old) value
             (scene S.Storage A.Source P.Source self.old storage.old sources.old))
             (S.view storage.old.beneath) }
+        ensures beneath { stored_word operand (length list.old) value
+            (scene S.Storage A.Source P.Source self.old storage.old sources.old) ≡ None
+            → storage.new.beneath ≡ storage.old.beneath }
         ensures layer { LayerAfter (refuses_access operand (length list.old)) self.old.prefix
             storage.old storage.new }
         ensures order { OrderedOverBare

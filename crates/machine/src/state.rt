@@ -1,8 +1,10 @@
 // The calls that make a machine, set its prefix, put a doubleword and purge a source.
 ghost use Rattle.std.specs.Prelude.{◌≡◌, ◌%◌, if◌then◌else◌, MatchBool, not, Ok, Err, OnErr, ◌==◌};
 ghost use Rattle.arch.specs.declared.condition.Condition.TheVariants.{BadPrefix};
+ghost use Rattle.machine.specs.Law.{StandsAtStart};
 ghost use Rattle.machine.specs.Puts.{put_answer, put_of, after_puts, after_puts_under, LayerAfter};
 ghost use Rattle.machine.specs.Registers.{zero_registers};
+ghost use Rattle.machine.specs.Scene.{held};
 ghost use Rattle.machine.specs.Turns.{EmptiesBoth, Purges};
 ghost use Rattle.storage.specs.Prefixes.{lawful_prefix, prefixed};
 
@@ -21,6 +23,7 @@ impl Machine {
     pub fn new<A: Source<AccessRegister>, P: Source<Paging>>(sources: &mut Sources<A, P>) -> Self
         ensures registers { result ≡ zero_registers }
         ensures sources { EmptiesBoth A.Source P.Source sources.old sources.new }
+        ensures starts { StandsAtStart result (held A.Source P.Source sources.new) }
     {
         sources.purge_both();
         Machine {

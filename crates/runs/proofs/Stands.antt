@@ -21,11 +21,11 @@ use Rattle.machine.specs.declared.request.Request.TheVariants as request
 use Rattle.machine.specs.declared.sources.Sources.{Sources}
 use Rattle.machine.specs.Calls.{Translating, accesses, fetches, stores, translates}
 use Rattle.machine.specs.Effects.{Turn, Turns, purged, asked_for, left, turn_of, effect_of, TurnsAccess, TurnsPage}
-use Rattle.machine.specs.Law.{AreUnchanged, FreshNow, IsUnchanged, KeepsLaw, Once, ShowFreshOnce, Sound, Stands, State, Unchanged, uncounted, moments_after, next, scene_at, seen_now, since, start}
+use Rattle.machine.specs.Law.{AreUnchanged, FreshNow, IsUnchanged, KeepsLaw, Once, ShowFreshOnce, Sound, Stands, State, Unchanged, uncounted, moments_after, next, scene_at, seen_now, since}
 use Rattle.machine.specs.Puts.{after_puts_under, stored_by}
-use Rattle.machine.specs.Registers.{Registers, zero_registers}
+use Rattle.machine.specs.Registers.{Registers}
 use Rattle.machine.specs.Scene.{AccessSource, PageSource, Scene, bare, held, seen, shown, unshown}
-use Rattle.machine.specs.Turns.{Asked, EmptiesBoth}
+use Rattle.machine.specs.Turns.{Asked}
 use Rattle.machine.proofs.Fresh.{accesses_same, fetches_same, stores_same, translates_same}
 use Rattle.machine.proofs.Sound.{sound_empty, sound_kept, sound_later, sound_shown}
 use Rattle.runs.proofs.Turned.{asked, operand}
@@ -86,17 +86,6 @@ module _ {A P : Type 0} (a : AccessSource A) (p : PageSource P) (s : State) (b d
       }
 
 module _ {A P : Type 0} (a : AccessSource A) (p : PageSource P) where
-  -- after the new call
-  pub stands_new : (v : View) {r : Registers} {b d : Sources A P} → r ≡ zero_registers → EmptiesBoth a p b d → Stands (start v) r v (held a p d)
-  stands_new v {r} {b} {d} new emptied = record {
-    registers = new;
-    view = refl;
-    sound = record {
-      access = sound_empty AccessFits access_fresh (since (seen_now (start v)) (start v).past).access (a.holds d.access) emptied.0.empty;
-      page = sound_empty PageFits page_fresh (since (seen_now (start v)) (start v).past).page (p.holds d.page) emptied.1.empty;
-    };
-  }
-
   -- what one call did, from these registers and this storage
   pub record Did (r : Registers) (v : View) (b : Sources A P) (c : Request) (o : Outcome) (r' : Registers) (v' : View) (d : Sources A P) : Type 0 where
     pub came : o ≡ (effect_of c (seen r (prefixed r.prefix v) (shown a p b))).outcome

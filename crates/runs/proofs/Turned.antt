@@ -1,5 +1,5 @@
 -- What a call that translates makes is its whole effect.
-use Rattle.std.proofs.Common.{◌≡◌, List, ℕ, length, Some, None, Option, Result, ap, ap₂, ◌∙◌, subst, refl}
+use Rattle.std.proofs.Common.{◌≡◌, Bool, true, false, cond, List, ℕ, length, Some, None, Option, Result, ap, ap₂, ◌∙◌, subst, refl}
 use Rattle.arch.specs.declared.call.Access.{Access}
 use Rattle.arch.specs.declared.call.Access.TheVariants.{Store}
 use Rattle.arch.specs.declared.call.Call.TheVariants as call
@@ -17,9 +17,9 @@ use Rattle.machine.specs.declared.request.Outcome.TheVariants as outcome
 use Rattle.machine.specs.declared.request.Request.TheVariants as request
 use Rattle.machine.specs.declared.sources.Operand.{Operand}
 use Rattle.machine.specs.declared.sources.Sources.{Sources}
-use Rattle.machine.specs.Calls.{Makes, Reports, accesses, fetches, stores, translates}
-use Rattle.machine.specs.Effects.{Performs, Turns, counted, turn_of, TurnsAccess, TurnsPage}
-use Rattle.machine.specs.Puts.{after_puts_under, stored_by}
+use Rattle.machine.specs.Calls.{Makes, Reports, accesses, fetches, refuses_access, refuses_translation, stored_word, stores, translates}
+use Rattle.machine.specs.Effects.{LayerLeft, Performs, Turns, counted, turn_of, TurnsAccess, TurnsPage}
+use Rattle.machine.specs.Puts.{LayerAfter, after_puts_under, stored_by}
 use Rattle.machine.specs.Registers.{Registers}
 use Rattle.machine.specs.Scene.{AccessSource, PageSource, scene}
 use Rattle.machine.specs.Turns.{Asked, AsksAccess, AsksPage}
@@ -43,43 +43,55 @@ access_turned a real = turned AccessFits (access_fresh real.word) a.holds a.afte
 page_turned : {P : Type 0} (p : PageSource P) (real : View) (key : Option PageKey) (before after : P) → AsksPage p real key before after → TurnsPage p real (turn_of key) before after
 page_turned p real = turned PageFits (page_fresh real.word) p.holds p.after_ask p.after_purge
 
+layer_left : {S : Type 0} (prefix : ℕ) (before after : Prefixed S) (refused : Bool) → LayerAfter refused prefix before after → LayerLeft (cond refused None (Some prefix)) before after
+layer_left prefix before after true same = same
+layer_left prefix before after false set = set
+
 abbrev pub operand : ℕ → ℕ → Operand
 operand register address = record { register = register; address = address }
 
 module _ {S A P : Type 0} (s : StorageGhosts S) (a : AccessSource A) (p : PageSource P) {r r' : Registers} {t t' : Prefixed S} {b d : Sources A P} {list list' : List ℕ} (places : length list ≡ 12) (register address : ℕ) where
-  pub translated : (access : Access) {came : Counted ℕ} → Makes a p (translates access (operand register address) (length list)) (scene s a p r t b) b list came d list' → r' ≡ r → t'.beneath ≡ t.beneath
+  pub translated : (access : Access) {came : Counted ℕ} → Makes a p (translates access (operand register address) (length list)) (scene s a p r t b) b list came d list' → r' ≡ r → t'.beneath ≡ t.beneath → LayerAfter (refuses_translation (operand register address) (length list)) r.prefix t t'
       → Performs s a p (request.Line (call.Translate access register address)) r t b (outcome.Translated came) r' t' d
-  translated access {came} makes registers storage =
+  translated access {came} makes registers storage layer =
       let made = subst (λ l. Makes a p (translates access (operand register address) l) (scene s a p r t b) b list came d list') places makes in
       record {
         outcome = ap outcome.Translated (counted_is made.reports);
         registers = registers;
         storage = ap s.view storage;
+        beneath = λ none. storage;
+        layer = layer_left r.prefix t t' (refuses_translation (operand register address) 12) (subst (λ l. LayerAfter (refuses_translation (operand register address) l) r.prefix t t') places layer);
         access = access_turned a (scene s a p r t b).real ((translates access (operand register address) 12).access_key (scene s a p r t b)) b.access d.access made.access;
         page = page_turned p (scene s a p r t b).real ((translates access (operand register address) 12).page_key (scene s a p r t b)) b.page d.page made.page;
       }
 
-  pub fetched : {came : Counted ℕ} → Makes a p (fetches (operand register address) (length list)) (scene s a p r t b) b list came d list' → r' ≡ r → t'.beneath ≡ t.beneath
+  pub fetched : {came : Counted ℕ} → Makes a p (fetches (operand register address) (length list)) (scene s a p r t b) b list came d list' → r' ≡ r → t'.beneath ≡ t.beneath → LayerAfter (refuses_access (operand register address) (length list)) r.prefix t t'
       → Performs s a p (request.Fetch register address) r t b (outcome.Fetched came) r' t' d
-  fetched {came} makes registers storage =
+  fetched {came} makes registers storage layer =
       let made = subst (λ l. Makes a p (fetches (operand register address) l) (scene s a p r t b) b list came d list') places makes in
       record {
         outcome = ap outcome.Fetched (counted_is made.reports);
         registers = registers;
         storage = ap s.view storage;
+        beneath = λ none. storage;
+        layer = layer_left r.prefix t t' (refuses_access (operand register address) 12) (subst (λ l. LayerAfter (refuses_access (operand register address) l) r.prefix t t') places layer);
         access = access_turned a (scene s a p r t b).real ((fetches (operand register address) 12).access_key (scene s a p r t b)) b.access d.access made.access;
         page = page_turned p (scene s a p r t b).real ((fetches (operand register address) 12).page_key (scene s a p r t b)) b.page d.page made.page;
       }
 
   pub stored : (x : ℕ) {came : Counted (Unit {0})} → Makes a p (stores (operand register address) (length list)) (scene s a p r t b) b list came d list' → r' ≡ r
       → s.view t'.beneath ≡ after_puts_under r.prefix (stored_by ((accesses Store (operand register address) (length list)).gives (scene s a p r t b)).result x) (s.view t.beneath)
+      → (stored_word (operand register address) (length list) x (scene s a p r t b) ≡ None → t'.beneath ≡ t.beneath)
+      → LayerAfter (refuses_access (operand register address) (length list)) r.prefix t t'
       → Performs s a p (request.Store register address x) r t b (outcome.Stored came) r' t' d
-  stored x {came} makes registers storage =
+  stored x {came} makes registers storage beneath layer =
       let made = subst (λ l. Makes a p (stores (operand register address) l) (scene s a p r t b) b list came d list') places makes in
       record {
         outcome = ap outcome.Stored (counted_is made.reports);
         registers = registers;
         storage = storage ∙ ap (λ l. after_puts_under r.prefix (stored_by ((accesses Store (operand register address) l).gives (scene s a p r t b)).result x) (s.view t.beneath)) places;
+        beneath = subst (λ l. stored_word (operand register address) l x (scene s a p r t b) ≡ None → t'.beneath ≡ t.beneath) places beneath;
+        layer = layer_left r.prefix t t' (refuses_access (operand register address) 12) (subst (λ l. LayerAfter (refuses_access (operand register address) l) r.prefix t t') places layer);
         access = access_turned a (scene s a p r t b).real ((stores (operand register address) 12).access_key (scene s a p r t b)) b.access d.access made.access;
         page = page_turned p (scene s a p r t b).real ((stores (operand register address) 12).page_key (scene s a p r t b)) b.page d.page made.page;
       }

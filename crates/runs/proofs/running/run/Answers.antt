@@ -1,14 +1,12 @@
 use Rattle.std.proofs.Common.{◌≡◌, ◌<◌, ◌≤◌, length, refl, arith}
 use Rattle.machine.proofs.Alike.{answers_alike}
 use Rattle.runs.proofs.Far.{far_begins, far_more, far_ends}
-use Rattle.runs.proofs.Stands.{stands_new}
 use Rattle.runs.proofs.running.run.Goals as goal
 
 pub loop-i-init : goal.loop-i-init
 loop-i-init g c =
     let v = g.S.Storage.view c.args.storage.now.beneath in
-    far_begins g.A.Source g.P.Source v c.new-machine.new.sources c.args.calls.now c.args.outcomes.now
-    (stands_new g.A.Source g.P.Source v {b = c.args.sources.now} c.new-machine.ensures.registers c.new-machine.ensures.sources)
+    far_begins g.A.Source g.P.Source v c.new-machine.new.sources c.args.calls.now c.args.outcomes.now (c.new-machine.ensures.starts v)
 
 pub loop-i-preserved : goal.loop-i-preserved
 loop-i-preserved g c =
