@@ -1,5 +1,5 @@
 -- Laws of walks and of their steps.
-use Rattle.std.proofs.Common.{◌≡◌, ℕ, ◌+◌, ◌≤◌, Bool, true, false, ltb, List, [], ◌∷◌, ◌++◌, length, is_some, Some, None, Ok, Err, Option, Result, unwrap_or, sym, refl, ap, ◌∙◌, subst, arith, length-append}
+use Rattle.std.proofs.Common.{◌≡◌, ℕ, ◌+◌, ◌≤◌, Bool, true, false, ltb, List, ◌∷◌, ◌++◌, length, Some, None, Ok, Err, Option, Result, unwrap_or, sym, refl, ap, ◌∙◌, subst, arith, length-append}
 use Rattle.std.proofs.lemmas.List.{append_assoc}
 use Rattle.arch.specs.declared.condition.Condition.{Condition}
 use Rattle.arch.specs.Walks.{Walk, answers, raises, reads, ◌>>=◌, check, Traced, reading, over, onward, then, Gives, Walks, asking, Agree, SeesOnlyItsTrace}

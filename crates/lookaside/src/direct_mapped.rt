@@ -44,7 +44,7 @@ impl Table for DirectMappedTable {
 
     ghost after_clear = { λ t. t.rows ≡ replicate direct_rows empty_row };
 
-    ghost found = { λ t k a f. at_found t.rows (direct_row k) k a f };
+    ghost found_is_in_a_row = { λ t k a f. at_found t.rows (direct_row k) k a f };
 
     fn find(&self, key: Words) -> Option<Words> {
         let row = self.rows[row_of(key)];

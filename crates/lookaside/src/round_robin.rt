@@ -42,7 +42,7 @@ impl Table for RoundRobinTable {
 
     ghost after_clear = { λ t. (t.rows ≡ replicate round_robin_rows empty_row) × (t.next ≡ 0) };
 
-    ghost found = { λ t k a f. first_found t.rows k a f };
+    ghost found_is_in_a_row = { λ t k a f. first_found t.rows k a f };
 
     fn find(&self, key: Words) -> Option<Words> {
         self.rows

@@ -16,9 +16,6 @@ pub trait Table {
 
     ghost after_clear: { Self → Type 0 };
 
-    // A pair found is in a row. It stands above the functions since `shown` of a source cites it.
-    ghost found: { (t : Self) (k a : Words) → finds t k ≡ Some a → has_pair t k a };
-
     // The words of the answer that it finds for a key, or None.
     fn find(&self, key: Words) -> Option<Words>
         ensures { result ≡ finds self.now key };
@@ -33,4 +30,7 @@ pub trait Table {
     fn clear(&mut self)
         ensures rows { after_clear self.new }
         ensures none { (k a : Words) → has_pair self.new k a → ⊥ };
+
+    // A pair found is in a row.
+    ghost found_is_in_a_row: { (t : Self) (k a : Words) → finds t k ≡ Some a → has_pair t k a };
 }

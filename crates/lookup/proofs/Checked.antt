@@ -1,5 +1,5 @@
 -- Single steps of a walk.
-use Rattle.std.proofs.Common.{◌≡◌, ℕ, Bool, true, false, List, Ok, Option, Result, sym, refl, ap, ◌∙◌, subst, append-nil, arith}
+use Rattle.std.proofs.Common.{◌≡◌, ℕ, Bool, true, false, List, Ok, Option, Result, sym, ap, ◌∙◌, subst, append-nil, arith}
 use Rattle.arch.specs.declared.condition.Condition.{Condition}
 use Rattle.arch.specs.Walks.{Walks, answers, read, check}
 use Rattle.lookup.specs.Checks.{checked}

@@ -1,6 +1,5 @@
 -- What a source gives when it is asked.
-use Rattle.std.specs.Prelude.{◌≡◌, ◌⊎◌, is_some, Some, None, Ok, Option, ◌≢◌}
-use Rattle.std.proofs.Common.{ap}
+use Rattle.std.specs.Prelude.{◌≡◌, ◌⊎◌, Some, None, Ok, Option, ◌≢◌}
 use Rattle.arch.specs.Walks.{Traced, given}
 
 -- the shown answer, with no address asked for; where none is shown, what comes of the walk

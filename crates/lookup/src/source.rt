@@ -44,8 +44,8 @@ pub trait Source<K: Kind> {
         ensures after { after_purge self.old self.new };
 
     // A pair shown is held.
-    ghost shown_is_held:
-        { (s : Self) (k : K.Key) (a : K.Answer) → shows s k ≡ Some a → holds s k a };
+    ghost shown_is_held: { (s : Self) (k : K.Key) (a : K.Answer)
+        → shows s k ≡ Some a → holds s k a };
 }
 
 // The source that holds nothing: it walks the tables each time.

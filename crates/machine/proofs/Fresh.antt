@@ -1,8 +1,7 @@
 -- A call over sources whose answers were fresh once gives, where nothing changed, what it gives with bare ones.
-use Rattle.std.proofs.Common.{◌≡◌, ℕ, ◌%◌, Bool, true, false, cond, not, ◌||◌, eqb, ltb, List, ◌∷◌, Some, None, Option, Result, sym, refl, ap, ◌∙◌}
+use Rattle.std.proofs.Common.{◌≡◌, ℕ, ◌%◌, Bool, true, false, cond, not, ◌||◌, eqb, ltb, List, ◌∷◌, Some, None, refl, ap, ◌∙◌}
 use Rattle.arch.specs.declared.call.Access.{Access}
 use Rattle.arch.specs.declared.call.Access.TheVariants.{Fetch, Store}
-use Rattle.arch.specs.declared.condition.Condition.{Condition}
 use Rattle.arch.specs.declared.condition.Condition.TheVariants.{BadNumber, Unaligned, ShortList}
 use Rattle.arch.specs.Walks.{Traced, then}
 use Rattle.storage.specs.Views.{View}

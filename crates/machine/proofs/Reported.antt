@@ -1,5 +1,5 @@
 -- From what a translation that is not refused reaches to what it makes.
-use Rattle.std.proofs.Common.{◌≡◌, ℕ, ◌%◌, ◌≤◌, Bool, false, cond, ◌||◌, List, [], ◌++◌, length, None, Option, Result, refl, sym, ap, ap₂, ◌∙◌, subst, ltb, le-ltb, eq-eqb, arith}
+use Rattle.std.proofs.Common.{◌≡◌, ℕ, ◌%◌, ◌≤◌, false, cond, ◌||◌, List, [], ◌++◌, length, None, Result, refl, sym, ap₂, ◌∙◌, subst, le-ltb, eq-eqb}
 use Rattle.arch.specs.declared.call.Access.{Access}
 use Rattle.arch.specs.declared.condition.Condition.{Condition}
 use Rattle.arch.specs.Walks.{Traced, Gives}
@@ -7,8 +7,6 @@ use Rattle.storage.specs.declared.prefix.Prefixed.{Prefixed}
 use Rattle.storage.specs.declared.storage.Storage.{Ghosts as StorageGhosts}
 use Rattle.storage.specs.Prefixes.{prefixed}
 use Rattle.storage.specs.Views.{View}
-use Rattle.lookup.specs.declared.access.AccessKey.{AccessKey}
-use Rattle.lookup.specs.declared.page.PageKey.{PageKey}
 use Rattle.machine.specs.declared.counted.Counted.{Counted}
 use Rattle.machine.specs.declared.sources.Operand.{Operand}
 use Rattle.machine.specs.declared.sources.Sources.{Sources}

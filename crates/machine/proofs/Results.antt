@@ -1,5 +1,5 @@
 -- A translation's result hangs on the results of what it asks, and on nothing else of them.
-use Rattle.std.proofs.Common.{◌≡◌, ℕ, Bool, true, false, cond, eqb, ltb, List, get_or, Some, None, Ok, Err, Option, Result, refl, ap, ◌∙◌}
+use Rattle.std.proofs.Common.{◌≡◌, ℕ, Bool, true, false, cond, eqb, List, get_or, Some, None, Ok, Err, Option, Result, refl, ap, ◌∙◌}
 use Rattle.arch.specs.declared.call.Access.{Access}
 use Rattle.arch.specs.declared.condition.Condition.{Condition}
 use Rattle.arch.specs.declared.condition.Condition.TheVariants.{LowAddress}

@@ -7,7 +7,6 @@ use Rattle.arch.specs.declared.condition.Condition.TheVariants.{BadNumber, Unali
 use Rattle.arch.specs.declared.record.Word.{Word}
 use Rattle.arch.specs.Order.{value}
 use Rattle.arch.specs.Walks.{Traced, then}
-use Rattle.storage.specs.Views.{View}
 use Rattle.lookup.specs.declared.access.AccessKey.{AccessKey}
 use Rattle.lookup.specs.declared.page.PageKey.{PageKey}
 use Rattle.machine.specs.declared.counted.Counted.{Counted}

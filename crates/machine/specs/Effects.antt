@@ -10,6 +10,7 @@ use Rattle.arch.specs.declared.record.Word.{Word}
 use Rattle.arch.specs.Walks.{Traced}
 use Rattle.storage.specs.declared.prefix.Prefixed.{Prefixed}
 use Rattle.storage.specs.declared.storage.Storage.{Ghosts as StorageGhosts}
+use Rattle.storage.specs.Layer.{prefix_of}
 use Rattle.storage.specs.Prefixes.{lawful_prefix}
 use Rattle.storage.specs.Views.{View}
 use Rattle.lookup.specs.declared.access.AccessKey.{AccessKey}
@@ -22,7 +23,6 @@ use Rattle.machine.specs.declared.request.Outcome.{Outcome}
 use Rattle.machine.specs.declared.request.Outcome.TheVariants as outcome
 use Rattle.machine.specs.declared.request.Request.{Request}
 use Rattle.machine.specs.declared.request.Request.TheVariants as request
-use Rattle.machine.specs.declared.sources.Operand.{Operand}
 use Rattle.machine.specs.declared.sources.Sources.{Sources}
 use Rattle.machine.specs.Calls.{Translating, translates, fetches, stores, stored_word}
 use Rattle.machine.specs.Puts.{put_answer, put_of, after_puts_under}
@@ -112,7 +112,7 @@ TurnsPage p real turn before after = Turns PageFits (page_fresh real.word) p.hol
 -- the layer at the prefix that a call leaves it at, or the storage as it was
 abbrev pub LayerLeft : {S : Type 0} → Option ℕ → Prefixed S → Prefixed S → Type 0
 LayerLeft None before after = after ≡ before
-LayerLeft (Some prefix) before after = after.prefix ≡ prefix
+LayerLeft (Some prefix) before after = prefix_of after ≡ prefix
 
 module _ {S A P : Type 0} (s : StorageGhosts S) (a : AccessSource A) (p : PageSource P) (c : Request) (r : Registers) (t : Prefixed S) (b : Sources A P) where
   abbrev pub sees : Scene

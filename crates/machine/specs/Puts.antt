@@ -4,6 +4,7 @@ use Rattle.arch.specs.declared.condition.Condition.{Condition}
 use Rattle.arch.specs.declared.condition.Condition.TheVariants.{Unaligned}
 use Rattle.arch.specs.declared.record.Word.{Word}
 use Rattle.storage.specs.declared.prefix.Prefixed.{Prefixed}
+use Rattle.storage.specs.Layer.{prefix_of}
 use Rattle.storage.specs.Prefixes.{absolute}
 use Rattle.storage.specs.Views.{View, after_put, put_result}
 
@@ -32,4 +33,4 @@ after_puts_under prefix (Some w) v = after_put v (absolute prefix w.address) w.v
 
 -- the layer is as it was where the call is refused, and else stands at this prefix
 abbrev pub LayerAfter : {S : Type 0} → Bool → ℕ → Prefixed S → Prefixed S → Type 0
-LayerAfter refused prefix before after = MatchBool refused (after ≡ before) (after.prefix ≡ prefix)
+LayerAfter refused prefix before after = MatchBool refused (after ≡ before) (prefix_of after ≡ prefix)

@@ -1,5 +1,5 @@
 -- Translation: what comes of it, and which addresses it asks for, given what the two sources answer.
-use Rattle.std.specs.Prelude.{ℕ, zero, suc, ◌+◌, ◌*◌, ◌/◌, ◌%◌, ◌^◌, Bool, true, false, cond, not, ◌&&◌, ◌||◌, is_some, Some, None, Ok, Err, Option, Result, ◌==◌, nat_lt, slice_index}
+use Rattle.std.specs.Prelude.{ℕ, ◌+◌, ◌*◌, ◌/◌, ◌%◌, ◌^◌, Bool, true, false, cond, not, ◌&&◌, ◌||◌, is_some, Some, None, Ok, Err, Option, Result, ◌==◌, nat_lt, slice_index}
 use Rattle.arch.specs.Bits.{bits, bit}
 use Rattle.arch.specs.Walks.{Traced, given, refused, then}
 use Rattle.arch.specs.declared.call.Access.{Access}

@@ -1,5 +1,5 @@
 -- What a call does to each source: it purges it, or asks it for a key, or leaves it.
-use Rattle.std.specs.Prelude.{◌≡◌, Some, None, Option}
+use Rattle.std.specs.Prelude.{◌≡◌, Some, Option}
 use Rattle.arch.specs.declared.call.SourceName.{SourceName}
 use Rattle.arch.specs.declared.call.SourceName.TheVariants.{AccessRegister, Page}
 use Rattle.arch.specs.Walks.{Traced}

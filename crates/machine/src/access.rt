@@ -6,6 +6,7 @@ ghost use Rattle.machine.specs.Law.{AnswersFresh};
 ghost use Rattle.machine.specs.Orders.{OrderedOverBare, fetch_store_conditions, real_found, value_found};
 ghost use Rattle.machine.specs.Puts.{LayerAfter, after_puts_under};
 ghost use Rattle.machine.specs.Scene.{held, scene};
+ghost use Rattle.storage.specs.Layer.{prefix_of};
 ghost use Rattle.storage.specs.Prefixes.{prefixed};
 
 use crate::counted::Counted;
@@ -24,7 +25,7 @@ impl Machine {
         ensures result { result ≡ value_there
             ((prefixed self.now.prefix (S.view storage.old.beneath)).word real) }
         ensures storage { storage.new.beneath ≡ storage.old.beneath }
-        ensures layer { storage.new.prefix ≡ self.now.prefix }
+        ensures layer { prefix_of storage.new ≡ self.now.prefix }
     {
         storage.load_prefix(self.prefix);
         storage.fetch(real).ok_or(Condition::Addressing)

@@ -1,6 +1,5 @@
 -- Where a machine and its sources stand from call to call.
-use Rattle.std.proofs.Common.{◌≡◌, ℕ, List, [], ◌∷◌, Some, None, Option, refl, ap, sym, subst₂}
-use Rattle.arch.specs.declared.call.Access.{Access}
+use Rattle.std.proofs.Common.{◌≡◌, ℕ, List, [], ◌∷◌, Some, None, Option, refl, ap, subst₂}
 use Rattle.arch.specs.declared.call.Access.TheVariants.{Store}
 use Rattle.arch.specs.declared.call.Call.TheVariants as call
 use Rattle.arch.specs.declared.call.SourceName.TheVariants.{AccessRegister, Page}
@@ -21,10 +20,10 @@ use Rattle.machine.specs.declared.request.Request.TheVariants as request
 use Rattle.machine.specs.declared.sources.Sources.{Sources}
 use Rattle.machine.specs.Calls.{Translating, accesses, fetches, stores, translates}
 use Rattle.machine.specs.Effects.{Turn, Turns, purged, asked_for, left, turn_of, effect_of, TurnsAccess, TurnsPage}
-use Rattle.machine.specs.Law.{AreUnchanged, FreshNow, IsUnchanged, KeepsLaw, Once, ShowFreshOnce, Sound, Stands, State, Unchanged, uncounted, moments_after, next, scene_at, seen_now, since}
+use Rattle.machine.specs.Law.{AreUnchanged, FreshNow, IsUnchanged, KeepsLaw, ShowFreshOnce, Sound, Stands, State, moments_after, next, scene_at, seen_now, since}
 use Rattle.machine.specs.Puts.{after_puts_under, stored_by}
 use Rattle.machine.specs.Registers.{Registers}
-use Rattle.machine.specs.Scene.{AccessSource, PageSource, Scene, bare, held, seen, shown, unshown}
+use Rattle.machine.specs.Scene.{AccessSource, PageSource, Scene, bare, held, seen, shown}
 use Rattle.machine.specs.Turns.{Asked}
 use Rattle.machine.proofs.Fresh.{accesses_same, fetches_same, stores_same, translates_same}
 use Rattle.machine.proofs.Sound.{sound_empty, sound_kept, sound_later, sound_shown}

@@ -1,5 +1,5 @@
 -- What a call that translates makes is its whole effect.
-use Rattle.std.proofs.Common.{◌≡◌, Bool, true, false, cond, List, ℕ, length, Some, None, Option, Result, ap, ap₂, ◌∙◌, subst, refl}
+use Rattle.std.proofs.Common.{◌≡◌, Bool, true, false, cond, List, ℕ, length, Some, None, Option, ap, ap₂, ◌∙◌, subst}
 use Rattle.arch.specs.declared.call.Access.{Access}
 use Rattle.arch.specs.declared.call.Access.TheVariants.{Store}
 use Rattle.arch.specs.declared.call.Call.TheVariants as call

@@ -10,7 +10,7 @@ use Rattle.runtext.proofs.OneRefusal.{one_refusal}
 use Rattle.runtext.proofs.Runs.{text_same}
 
 pub reads_back : (r : Run) (text : List ℕ) → Spellable r → text ≡ spell r → ReadsBack r text
-reads_back r text s e = λ p h. ((record { spellable = s; words = h.0; keys = h.1; calls = h.2 }, sym e), λ q h. text_same q r h.0.spellable (h.1 ∙ e))
+reads_back r text s e = λ p h. ((record { spellable = s; words = h.words; keys = h.keys; calls = h.calls }, sym e), λ q h. text_same q r h.0.spellable (h.1 ∙ e))
 
 -- what is written says the run
 pub says_run : (r : Run) (before after : List ℕ) (o : Result ℕ Refusal) → IfOk o (Written r before after) → IfOk o (λ n. ReadsBack r (take n after))

@@ -9,7 +9,7 @@ use Rattle.runtext.specs.declared.places.Places.{Places}
 use Rattle.runtext.specs.declared.text.Text.{Text}
 use Rattle.runtext.specs.Lines.{kind_of, Sound}
 use Rattle.runtext.specs.Passes.{SamePlaces, Left}
-use Rattle.runtext.specs.Runs.{Run, spell, counts, run_in, Spellable, Spells}
+use Rattle.runtext.specs.Runs.{Run, Within, spell, counts, run_in, Spellable, Spells}
 use Rattle.runtext.specs.Verdicts.{Full, Refused}
 
 -- these bytes stand from `at` to `end`, and the others are as they were
@@ -47,7 +47,7 @@ pub record Written (r : Run) (before after : List ℕ) (n : ℕ) : Type 0 where
 
 -- there is a place for each record of a run
 abbrev pub HasPlaces : Counts → Run → Type 0
-HasPlaces p r = (length r.words ≤ p.words) × (length r.keys ≤ p.keys) × (length r.calls ≤ p.calls)
+HasPlaces p r = Within (counts r) p
 
 -- the round trip of a run: wherever there are places for it, this text says it, and it alone
 abbrev pub ReadsBack : Run → List ℕ → Type 0

@@ -1,4 +1,5 @@
 pub mod Keyed
+pub mod Layer
 pub mod Prefixes
 pub mod Records
 pub mod Views

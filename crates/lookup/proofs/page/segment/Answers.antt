@@ -1,6 +1,5 @@
 use Rattle.std.proofs.Common.{◌&&◌, ap}
-use Rattle.std.proofs.lemmas.Result.{err_from_is_err_and}
-use Rattle.arch.proofs.Walks.{walk_on, walk_out}
+use Rattle.arch.proofs.Walks.{walk_on}
 use Rattle.lookup.proofs.Checked.{check_step}
 use Rattle.lookup.proofs.page.segment.Goals as goal
 

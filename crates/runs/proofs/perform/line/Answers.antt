@@ -1,7 +1,6 @@
 use Rattle.std.proofs.Common.{rules, sym, subst}
 use Rattle.arch.specs.declared.call.Call.{Call}
 use Rattle.machine.specs.declared.request.Outcome.TheVariants as outcome
-use Rattle.machine.specs.declared.request.Request.{Request}
 use Rattle.machine.specs.declared.request.Request.TheVariants as request
 use Rattle.machine.specs.Effects.{Performs}
 use Rattle.runs.proofs.Turned.{translated}

@@ -1,4 +1,4 @@
-use Rattle.std.proofs.Common.{◌≡◌, ◌<◌, ◌≤◌, length, refl, arith}
+use Rattle.std.proofs.Common.{◌≡◌, ◌<◌, ◌≤◌, length, arith}
 use Rattle.machine.proofs.Alike.{answers_alike}
 use Rattle.runs.proofs.Far.{far_begins, far_more, far_ends}
 use Rattle.runs.proofs.running.run.Goals as goal
