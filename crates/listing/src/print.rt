@@ -62,6 +62,7 @@ impl Display for Listing<'_> {
     ghost output = { λ x. Some (listing_of x.first_line x.outcomes.now) };
 
     fn fmt<W: Write>(&self, f: &mut Formatter<W>) -> fmt::Result {
+        // the number of a line is wanted itself
         for (i, outcome) in self.outcomes.iter().enumerate() {
             let numbered = Numbered {
                 line: self.first_line + i,

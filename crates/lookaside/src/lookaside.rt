@@ -26,7 +26,8 @@ impl<K: Kind, T: Table, B: Source<K>> Source<K> for Lookaside<T, B> {
     ghost shown_is_held = { λ s k a e. shown_held
         K.answer_of (T.finds s.table (K.key_words k)) (B.shows s.beneath k)
         (T.has_pair s.table (K.key_words k)) (B.holds s.beneath k)
-        (λ w f. T.found_is_in_a_row s.table (K.key_words k) w f) (λ b f. B.shown_is_held s.beneath k b f) a e };
+        (λ w f. T.found_is_in_a_row s.table (K.key_words k) w f)
+        (λ b f. B.shown_is_held s.beneath k b f) a e };
 
     fn ask<S: Storage>(
         &mut self,

@@ -36,10 +36,7 @@ module _ (w v : ℕ → Option ℕ) where
   onward_front l (Err c) k h = h
 
   onward_back : {A B : Type 0} (l : List ℕ) (r : Result A Condition) (k : A → Traced B) (a : A) → r ≡ Ok a → Agree w v (onward l r k).trace → Agree w v (k a).trace
-  onward_back {A} l (Ok b) k a e h = subst (λ x. Agree w v (k x).trace) (ok_is e) (agree_back l (k b).trace h)
-    where
-      ok_is : ◌≡◌ {A = Result A Condition} (Ok b) (Ok a) → b ≡ a
-      ok_is e = cc
+  onward_back l (Ok b) k a e h = let same : b ≡ a = cc in subst (λ x. Agree w v (k x).trace) same (agree_back l (k b).trace h)
   onward_back l (Err c) k a e h = absurd cc
 
 onward_alike : {A B : Type 0} (l : List ℕ) (r : Result A Condition) (k j : A → Traced B) → ((a : A) → r ≡ Ok a → j a ≡ k a) → onward l r j ≡ onward l r k

@@ -36,6 +36,7 @@ pub fn run<S: Storage, A: Source<AccessRegister>, P: Source<Paging>>(
         return Err(Condition::ShortList);
     }
     let mut machine = Machine::new(sources);
+    // an outcome's place is that of its call
     for (i, call) in calls.iter().enumerate() {
         outcomes[i] = answer(&mut machine, storage, sources, *call);
     }

@@ -37,7 +37,8 @@ pub const WORDS: usize = 1024;
 // The most block keys that a run with a text has.
 pub const KEYS: usize = 256;
 
-// More calls than any text has: a call's line has four bytes or more. They have no limit of their own.
+// More calls than any text has: a call's line has four bytes or more. They have no limit of their
+// own.
 pub const CALLS: usize = BYTES / 4;
 
 // How many doublewords, keys and calls there are, or places for them.

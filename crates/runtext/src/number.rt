@@ -6,7 +6,7 @@ ghost use Rattle.runtext.specs.Reading.{Reads};
 // The most digits that a number of 64 bits has.
 const DIGITS: usize = 16;
 
-// The value of a hexadecimal digit.
+// The value of a hexadecimal digit. The library's `to_digit` takes capitals too.
 fn digit(b: u8) -> Option<u8>
     ensures { Reads result (λ d. d < 16) hexit b }
 {

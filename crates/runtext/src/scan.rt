@@ -35,6 +35,7 @@ pub(crate) fn judge(text: &[u8], places: Counts) -> Result<(), Refusal>
             line: 1,
         });
     };
+    // No iterator over the lines: whether one may come hangs on those before it.
     while let Some((line, after)) = so_far.step(rest) {
         so_far = so_far.and(line);
         rest = after;
@@ -61,6 +62,7 @@ pub(crate) fn fill(text: &[u8], places: &mut Places<'_>) -> Counts
     let Some(mut rest) = after_header(text) else {
         return so_far.found;
     };
+    // As in `judge`.
     while let Some((line, after)) = so_far.step(rest) {
         places.put(line, so_far.found);
         so_far = so_far.and(line);
