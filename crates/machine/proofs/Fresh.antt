@@ -17,8 +17,8 @@ use Rattle.machine.specs.declared.counted.Counted.{Counted}
 use Rattle.machine.specs.declared.sources.Operand.{Operand}
 use Rattle.machine.specs.declared.sources.Sources.{Sources}
 use Rattle.machine.specs.Calls.{Translating, Makes, access_key_asked, page_key_asked, accesses, fetches, stores, translates, plainly, value_there, refuses_access, refuses_translation}
-use Rattle.machine.specs.Law.{AnswersFresh, IsUnchanged, Past, ShowFreshOnce, Steady, since}
-use Rattle.machine.specs.Puts.{put_answer}
+use Rattle.machine.specs.Law.{AnswersFresh, AreSound, IsUnchanged, Past, ShowFreshOnce, Steady, StoresFresh, since}
+use Rattle.machine.specs.Puts.{put_answer, stored_by}
 use Rattle.machine.specs.Registers.{Registers}
 use Rattle.machine.specs.Scene.{AccessSource, PageSource, Scene, ask_access, ask_page, held, seen, shown, unshown}
 use Rattle.machine.specs.Translation.{unless, reach}
@@ -95,15 +95,18 @@ stores_same o places n past widths once unchanged =
     (accesses_same Store o places n past widths once (record { access = unchanged.access; page = unchanged.page })) (λ real e. refl)
 
 -- from what a call gives and does to its sources to what is known after any past
-module _ {A P X : Type 0} (a : AccessSource A) (p : PageSource P) (held_a : (s : A) (k : AccessKey) (x : AccessAnswer) → a.shows s k ≡ Some x → a.holds s k x) (held_p : (s : P) (k : PageKey) (x : PageAnswer) → p.shows s k ≡ Some x → p.holds s k x) where
-  pub answers_fresh : (c : Translating X) → SameWhereUnchanged c → (r : Registers) (real : View) (before after : Sources A P) (list list' : List ℕ) (came : Counted X)
+module _ {A P : Type 0} (a : AccessSource A) (p : PageSource P) (held_a : (s : A) (k : AccessKey) (x : AccessAnswer) → a.shows s k ≡ Some x → a.holds s k x) (held_p : (s : P) (k : PageKey) (x : PageAnswer) → p.shows s k ≡ Some x → p.holds s k x) where
+  once_shown : (real : View) (before : Sources A P) (past : Past) → AreSound (since real.word past) (held a p before) → ShowFreshOnce (since real.word past) (shown a p before)
+  once_shown real before past sound = record {
+    access = sound_shown AccessFits access_fresh (real.word ∷ past.access) (a.shows before.access) (a.holds before.access) (held_a before.access) sound.access;
+    page = sound_shown PageFits page_fresh (real.word ∷ past.page) (p.shows before.page) (p.holds before.page) (held_p before.page) sound.page;
+  }
+
+  pub answers_fresh : {X : Type 0} (c : Translating X) → SameWhereUnchanged c → (r : Registers) (real : View) (before after : Sources A P) (list list' : List ℕ) (came : Counted X)
       → Makes a p c (seen r real (shown a p before)) before list came after list' → AnswersFresh c (seen r real (shown a p before)) came.result (held a p before) (held a p after)
   answers_fresh c same r real before after list list' came makes past sound =
       let n = seen r real (shown a p before) in
-      let once : ShowFreshOnce (since real.word past) (shown a p before) = record {
-        access = sound_shown AccessFits access_fresh (real.word ∷ past.access) (a.shows before.access) (a.holds before.access) (held_a before.access) sound.access;
-        page = sound_shown PageFits page_fresh (real.word ∷ past.page) (p.shows before.page) (p.holds before.page) (held_p before.page) sound.page;
-      } in
+      let once = once_shown real before past sound in
       record {
         once = once;
         same = λ unchanged. makes.reports.result ∙ same n past makes.access.widths once unchanged;
@@ -112,3 +115,9 @@ module _ {A P X : Type 0} (a : AccessSource A) (p : PageSource P) (held_a : (s :
           page = sound_kept PageFits page_fresh real.word past.page (p.holds before.page) (p.holds after.page) makes.page.keeps sound.page;
         };
       }
+
+  -- so what a store puts, where nothing changed
+  pub stores_fresh : (o : Operand) (places x : ℕ) (r : Registers) (real : View) (before after : Sources A P) (list list' : List ℕ) (came : Counted (Unit {0}))
+      → Makes a p (stores o places) (seen r real (shown a p before)) before list came after list' → StoresFresh o places x (seen r real (shown a p before)) (held a p before)
+  stores_fresh o places x r real before after list list' came makes past sound unchanged =
+      ap (λ y. stored_by y x) (accesses_same Store o places (seen r real (shown a p before)) past makes.access.widths (once_shown real before past sound) (record { access = unchanged.access; page = unchanged.page }))

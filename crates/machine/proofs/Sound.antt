@@ -1,5 +1,6 @@
 -- What a source holds was fresh at a moment since its latest purge, and stays so from call to call.
-use Rattle.std.proofs.Common.{◌≡◌, ℕ, ◌⊎◌, List, [], ◌∷◌, Some, None, Ok, Option, sym, refl, ap, ◌∙◌, inl, inr}
+use Rattle.std.proofs.Common.{◌≡◌, ℕ, ◌⊎◌, List, [], ◌∷◌, Some, None, Ok, Err, Option, sym, refl, ap, ◌∙◌, inl, inr}
+use Rattle.arch.specs.declared.condition.Condition.{Condition}
 use Rattle.arch.specs.Walks.{Traced, SeesOnlyItsTrace}
 use Rattle.lookup.specs.Sources.{asked, Kept, Empty}
 use Rattle.machine.specs.Law.{Once, FreshOnce, Steady, Sound}
@@ -35,3 +36,8 @@ module _ {Answer : Type 0} (fresh : (ℕ → Option ℕ) → Traced Answer) (loc
   pub asked_now : (shown : Option Answer) (moments : List (ℕ → Option ℕ)) → ((a : Answer) → shown ≡ Some a → Once (λ w. (fresh w).result ≡ Ok a) moments) → Steady now moments (fresh now).trace → (asked shown (fresh now)).result ≡ (fresh now).result
   asked_now None moments once steady = refl
   asked_now (Some a) moments once steady = sym (once_now moments a (once a refl) steady)
+
+-- a condition that a source meets is fresh
+pub met_fresh : {A : Type 0} (shown : Option A) (fresh : Traced A) (met : Condition) → (asked shown fresh).result ≡ Err met → fresh.result ≡ Err met
+met_fresh None fresh met e = e
+met_fresh (Some a) fresh met e = absurd cc

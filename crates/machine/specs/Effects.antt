@@ -1,5 +1,5 @@
 -- All that a call does, by what it sees.
-use Rattle.std.specs.Prelude.{◌≡◌, ℕ, ◌%◌, ◌==◌, cond, length, Some, None, Ok, Err, Option}
+use Rattle.std.specs.Prelude.{◌≡◌, ℕ, ◌%◌, ◌==◌, Bool, false, is_ok, cond, length, Some, None, Ok, Err, Option}
 use Rattle.std.specs.Option.{unwrap_or}
 use Rattle.arch.specs.declared.call.Call.{Call}
 use Rattle.arch.specs.declared.call.Call.TheVariants as call
@@ -109,6 +109,15 @@ TurnsAccess a real turn before after = Turns AccessFits (access_fresh real.word)
 abbrev pub TurnsPage : {P : Type 0} → PageSource P → View → Turn PageKey → P → P → Type 0
 TurnsPage p real turn before after = Turns PageFits (page_fresh real.word) p.holds p.after_ask p.after_purge turn before after
 
+-- an outcome that says that a doubleword was put
+abbrev pub is_done : Outcome → Bool
+is_done (outcome.Loaded r) = false
+is_done (outcome.Translated x) = false
+is_done (outcome.Put r) = is_ok r
+is_done outcome.Purged = false
+is_done (outcome.Fetched x) = false
+is_done (outcome.Stored x) = is_ok x.result
+
 -- the layer at the prefix that a call leaves it at, or the storage as it was
 abbrev pub LayerLeft : {S : Type 0} → Option ℕ → Prefixed S → Prefixed S → Type 0
 LayerLeft None before after = after ≡ before
@@ -126,7 +135,7 @@ module _ {S A P : Type 0} (s : StorageGhosts S) (a : AccessSource A) (p : PageSo
     pub outcome : o ≡ effect.outcome
     pub registers : r' ≡ effect.registers
     pub storage : s.view t'.beneath ≡ after_puts_under r.prefix effect.puts (s.view t.beneath)
-    pub beneath : effect.puts ≡ None → t'.beneath ≡ t.beneath
+    pub beneath : is_done o ≡ false → t'.beneath ≡ t.beneath
     pub layer : LayerLeft effect.layer t t'
     pub access : TurnsAccess a sees.real effect.access b.access b'.access
     pub page : TurnsPage p sees.real effect.page b.page b'.page

@@ -1,5 +1,5 @@
 -- The law of every run: what is known of each answer, however stores, purges and translations follow one another.
-use Rattle.std.specs.Prelude.{◌≡◌, ℕ, ◌*◌, ◌/◌, ◌≤◌, ◌⊎◌, List, [], ◌∷◌, length, is_some, Some, Ok, Option, Result, nat_lt}
+use Rattle.std.specs.Prelude.{◌≡◌, ℕ, ◌*◌, ◌/◌, ◌≤◌, ◌⊎◌, List, [], ◌∷◌, length, is_some, Some, Ok, Err, Option, Result, nat_lt}
 use Rattle.std.specs.List.{AllByRecursion}
 use Rattle.arch.specs.declared.call.Access.{Access}
 use Rattle.arch.specs.declared.condition.Condition.{Condition}
@@ -18,7 +18,7 @@ use Rattle.machine.specs.declared.request.Outcome.TheVariants as outcome
 use Rattle.machine.specs.declared.request.Request.{Request}
 use Rattle.machine.specs.declared.sources.Operand.{Operand}
 use Rattle.machine.specs.declared.sources.Sources.{Sources}
-use Rattle.machine.specs.Calls.{Translating, translates}
+use Rattle.machine.specs.Calls.{Translating, stored_word, stores, translates}
 use Rattle.machine.specs.Effects.{Turn, purged, asked_for, left, Effect, effect_of, TurnsAccess, TurnsPage}
 use Rattle.machine.specs.Puts.{after_puts_under}
 use Rattle.machine.specs.Registers.{Registers, zero_registers}
@@ -124,11 +124,26 @@ pub record SameButCount (e f : Effect) : Type 0 where
 abbrev pub FreshNow : State → Shown → Request → Type 0
 FreshNow s shown c = Unchanged s c → SameButCount (effect_of c (scene_at s shown)) (effect_of c (scene_at s bare))
 
+-- FRESH EXCEPTIONS. Where a source meets a condition for a key, it is the one that the key's walk meets as the call
+-- starts.
+pub record MeetFreshly (n : Scene) : Type 0 where
+  pub access : (k : AccessKey) (met : Condition) → (ask_access n k).result ≡ Err met → (access_fresh n.real.word k).result ≡ Err met
+  pub page : (k : PageKey) (met : Condition) → (ask_page n k).result ≡ Err met → (page_fresh n.real.word k).result ≡ Err met
+
 -- THE RECORD. What came of a call, and the law of it.
 pub record KeepsLaw (s : State) (shown : Shown) (c : Request) (o : Outcome) : Type 0 where
   pub came : o ≡ (effect_of c (scene_at s shown)).outcome
+  pub met : MeetFreshly (scene_at s shown)
   pub once : ShowFreshOnce (since (seen_now s) s.past) shown
   pub now : FreshNow s shown c
+
+-- HELD. Every pair held was fresh at one of these moments.
+abbrev pub Sound : {Key Answer : Type 0} → (Key → Type 0) → ((ℕ → Option ℕ) → Key → Traced Answer) → List (ℕ → Option ℕ) → (Key → Answer → Type 0) → Type 0
+Sound {Key} {Answer} fits fresh moments holds = (k : Key) (a : Answer) → fits k → holds k a → Once (λ w. (fresh w k).result ≡ Ok a) moments
+
+pub record AreSound (moments : Past) (holds : Held) : Type 0 where
+  pub access : Sound AccessFits access_fresh moments.access holds.access
+  pub page : Sound PageFits page_fresh moments.page holds.page
 
 -- A run over two sources of any make.
 module _ {A P : Type 0} (a : AccessSource A) (p : PageSource P) where
@@ -153,6 +168,9 @@ module _ {A P : Type 0} (a : AccessSource A) (p : PageSource P) where
     pub empties : EmptiesBoth a p b emptied
     pub law : Lawful (start v) emptied cs os last b'
     pub view : v' ≡ last.view
+    -- each pair that a source is handed back with was fresh at a moment since its latest purge and before the end: a
+    -- source that was purged last is handed back empty
+    pub holds : AreSound last.past (held a p b')
 
 -- NOTHING ELSE MATTERS. The real address of a translation, before the doubleword there is looked at.
 abbrev pub real_seen : Scene → Access → Operand → ℕ → Traced ℕ
@@ -185,15 +203,7 @@ AnswersAsItsLike m access o places = (n : Scene) → Alike m n access o places �
 abbrev pub NothingElseMatters : Type 0
 NothingElseMatters = (m : Scene) (access : Access) (o : Operand) (places : ℕ) → AnswersAsItsLike m access o places
 
--- CALL BY CALL. Every pair held was fresh at one of the moments since the latest purge.
-abbrev pub Sound : {Key Answer : Type 0} → (Key → Type 0) → ((ℕ → Option ℕ) → Key → Traced Answer) → List (ℕ → Option ℕ) → (Key → Answer → Type 0) → Type 0
-Sound {Key} {Answer} fits fresh moments holds = (k : Key) (a : Answer) → fits k → holds k a → Once (λ w. (fresh w k).result ≡ Ok a) moments
-
-pub record AreSound (moments : Past) (holds : Held) : Type 0 where
-  pub access : Sound AccessFits access_fresh moments.access holds.access
-  pub page : Sound PageFits page_fresh moments.page holds.page
-
--- where a machine and its sources stand as in such a state
+-- CALL BY CALL. Where a machine and its sources stand as in such a state.
 pub record Stands (s : State) (r : Registers) (v : View) (holds : Held) : Type 0 where
   pub registers : r ≡ s.registers
   pub view : v ≡ s.view
@@ -214,6 +224,11 @@ pub record FreshAnswer {X : Type 0} (c : Translating X) (n : Scene) (r : Result 
 -- so after any past in which every pair held was fresh at one of the moments
 abbrev pub AnswersFresh : {X : Type 0} → Translating X → Scene → Result X Condition → Held → Held → Type 0
 AnswersFresh c n r before after = (past : Past) → AreSound (since n.real.word past) before → FreshAnswer c n r after past
+
+-- what a store puts, after any past of the sources, where nothing changed
+abbrev pub StoresFresh : Operand → ℕ → ℕ → Scene → Held → Type 0
+StoresFresh o places x n before =
+    (past : Past) → AreSound (since n.real.word past) before → IsUnchanged (stores o places) n past → stored_word o places x n ≡ stored_word o places x (unshown n)
 
 -- so each call from there on keeps the law, and leaves the machine and its sources in the next state
 abbrev pub GoesOn : {A P : Type 0} → AccessSource A → PageSource P → Registers → View → Sources A P → Request → Outcome → Registers → View → Sources A P → Type 0

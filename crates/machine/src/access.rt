@@ -1,8 +1,8 @@
 // Fetch and store: a translation, and then the doubleword.
-ghost use Rattle.std.specs.Prelude.{◌≡◌, length, None};
+ghost use Rattle.std.specs.Prelude.{◌≡◌, length, OnErr};
 ghost use Rattle.arch.specs.declared.call.Access.TheVariants.{Fetch, Store};
 ghost use Rattle.machine.specs.Calls.{FetchesThere, Makes, StoresThere, accesses, fetches, refuses_access, stored_word, stores, value_there};
-ghost use Rattle.machine.specs.Law.{AnswersFresh};
+ghost use Rattle.machine.specs.Law.{AnswersFresh, StoresFresh};
 ghost use Rattle.machine.specs.Orders.{OrderedOverBare, fetch_store_conditions, real_found, value_found};
 ghost use Rattle.machine.specs.Puts.{LayerAfter, after_puts_under};
 ghost use Rattle.machine.specs.Scene.{held, scene};
@@ -126,9 +126,7 @@ impl Machine {
             (stored_word operand (length list.old) value
             (scene S.Storage A.Source P.Source self.old storage.old sources.old))
             (S.view storage.old.beneath) }
-        ensures beneath { stored_word operand (length list.old) value
-            (scene S.Storage A.Source P.Source self.old storage.old sources.old) ≡ None
-            → storage.new.beneath ≡ storage.old.beneath }
+        ensures refused { OnErr result.result (storage.new.beneath ≡ storage.old.beneath) }
         ensures layer { LayerAfter (refuses_access operand (length list.old)) self.old.prefix
             storage.old storage.new }
         ensures order { OrderedOverBare
@@ -138,6 +136,9 @@ impl Machine {
         ensures law { AnswersFresh (stores operand (length list.old))
             (scene S.Storage A.Source P.Source self.old storage.old sources.old) result.result
             (held A.Source P.Source sources.old) (held A.Source P.Source sources.new) }
+        ensures puts { StoresFresh operand (length list.old) value
+            (scene S.Storage A.Source P.Source self.old storage.old sources.old)
+            (held A.Source P.Source sources.old) }
     {
         let reached = self.accessed(storage, sources, Access::Store, operand, list);
         let result = match reached.result {

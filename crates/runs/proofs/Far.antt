@@ -3,14 +3,19 @@ use Rattle.std.proofs.Common.{◌≡◌, ℕ, ◌+◌, ◌<◌, List, [], ◌∷
 use Rattle.std.proofs.lemmas.List.{take_more, take_more_set, take_all}
 use Rattle.storage.specs.Prefixes.{prefixed}
 use Rattle.storage.specs.Views.{View}
+use Rattle.lookup.specs.Access.{AccessFits}
+use Rattle.lookup.specs.Lookups.{access_fresh, page_fresh}
+use Rattle.lookup.specs.Spelling.{PageFits}
 use Rattle.machine.specs.declared.request.Outcome.{Outcome}
 use Rattle.machine.specs.declared.request.Request.{Request}
 use Rattle.machine.specs.declared.sources.Sources.{Sources}
 use Rattle.machine.specs.Effects.{effect_of, TurnsAccess, TurnsPage}
-use Rattle.machine.specs.Law.{GoesOn, Lawful, Ran, Stands, State, Takes, next, start}
+use Rattle.machine.specs.Law.{AreSound, GoesOn, Lawful, Ran, Stands, State, Takes, next, start}
 use Rattle.machine.specs.Registers.{Registers}
 use Rattle.machine.specs.Scene.{AccessSource, PageSource, held, seen, shown}
 use Rattle.machine.specs.Turns.{EmptiesBoth}
+use Rattle.machine.proofs.Sound.{sound_empty}
+use Rattle.runs.proofs.Stands.{held_past}
 
 module _ {A P : Type 0} (a : AccessSource A) (p : PageSource P) where
   -- one call more at the end of a run
@@ -28,11 +33,18 @@ module _ {A P : Type 0} (a : AccessSource A) (p : PageSource P) where
     pub state : State
     pub law : Lawful a p (start v) emptied (take i calls) (take i outcomes) state b
     pub stands : Stands state r w (held a p b)
+    pub holds : AreSound state.past (held a p b)
     pub rest : drop i outcomes ≡ drop i first
 
   module _ (v : View) (emptied : Sources A P) (calls : List Request) (first : List Outcome) where
-    pub far_begins : {r : Registers} → Stands (start v) r v (held a p emptied) → Far v emptied calls first 0 first r v emptied
-    far_begins stands = record { state = start v; law = (refl, refl); stands = stands; rest = refl }
+    pub far_begins : {r : Registers} {before : Sources A P} → Stands (start v) r v (held a p emptied) → EmptiesBoth a p before emptied → Far v emptied calls first 0 first r v emptied
+    far_begins stands empties = record {
+      state = start v;
+      law = (refl, refl);
+      stands = stands;
+      holds = record { access = sound_empty AccessFits access_fresh [] (a.holds emptied.access) empties.0.empty; page = sound_empty PageFits page_fresh [] (p.holds emptied.page) empties.1.empty };
+      rest = refl;
+    }
 
     pub far_more : (i : ℕ) (outcomes : List Outcome) (c : Request) (o : Outcome) {r r' : Registers} {w w' : View} {b d : Sources A P} → i < length calls → i < length outcomes
         → Far v emptied calls first i outcomes r w b → GoesOn a p r w b (get_or calls i c) o r' w' d
@@ -52,6 +64,7 @@ module _ {A P : Type 0} (a : AccessSource A) (p : PageSource P) where
           state = next s (shown a p b) call;
           law = subst₂ (λ cs os. Lawful a p (start v) emptied cs os (next s (shown a p b) call) d) (sym (take_more calls i c within)) (sym (take_more_set outcomes i o room)) (lawful_more (start v) emptied (take i calls) (take i outcomes) s b call o d far.law takes);
           stands = on.1;
+          holds = held_past a p s b call o d takes far.holds;
           rest = drop-set-lt (i + 1) outcomes i o (omega arith) ∙ sym (drop-drop 1 i outcomes) ∙ ap (drop 1) far.rest ∙ drop-drop 1 i first;
         }
 
@@ -67,6 +80,7 @@ module _ {A P : Type 0} (a : AccessSource A) (p : PageSource P) where
             empties = empties;
             law = subst (λ cs. Lawful a p (start v) emptied cs (take (length calls) outcomes) at_end.state b) all at_end.law;
             view = at_end.stands.view;
+            holds = at_end.holds;
           },
           at_end.rest,
         )

@@ -20,19 +20,25 @@ use Rattle.machine.specs.declared.request.Request.TheVariants as request
 use Rattle.machine.specs.declared.sources.Sources.{Sources}
 use Rattle.machine.specs.Calls.{Translating, accesses, fetches, stores, translates}
 use Rattle.machine.specs.Effects.{Turn, Turns, purged, asked_for, left, turn_of, effect_of, TurnsAccess, TurnsPage}
-use Rattle.machine.specs.Law.{AreUnchanged, FreshNow, IsUnchanged, KeepsLaw, ShowFreshOnce, Sound, Stands, State, moments_after, next, scene_at, seen_now, since}
+use Rattle.machine.specs.Law.{AreSound, AreUnchanged, MeetFreshly, Takes, FreshNow, IsUnchanged, KeepsLaw, ShowFreshOnce, Sound, Stands, State, moments_after, next, scene_at, seen_now, since}
 use Rattle.machine.specs.Puts.{after_puts_under, stored_by}
 use Rattle.machine.specs.Registers.{Registers}
 use Rattle.machine.specs.Scene.{AccessSource, PageSource, Scene, bare, held, seen, shown}
 use Rattle.machine.specs.Turns.{Asked}
 use Rattle.machine.proofs.Fresh.{accesses_same, fetches_same, stores_same, translates_same}
-use Rattle.machine.proofs.Sound.{sound_empty, sound_kept, sound_later, sound_shown}
+use Rattle.machine.proofs.Sound.{met_fresh, sound_empty, sound_kept, sound_later, sound_shown}
 use Rattle.runs.proofs.Turned.{asked, operand}
 
 -- what a source holds after its turn was fresh once
 module _ {Key Answer S : Type 0} (fits : Key → Type 0) (fresh : (ℕ → Option ℕ) → Key → Traced Answer) (holds : S → Key → Answer → Type 0) (after_ask : S → (Key → Traced Answer) → Key → S → Type 0) (after_purge : S → S → Type 0) (now new : ℕ → Option ℕ) (earlier : List (ℕ → Option ℕ)) (before after : S) where
   sound_asked : (key : Option Key) → Asked fits (fresh now) holds after_ask key before after → Sound fits fresh (now ∷ earlier) (holds before) → Sound fits fresh (new ∷ now ∷ earlier) (holds after)
   sound_asked key asks sound = sound_later fits fresh new (now ∷ earlier) (holds after) (sound_kept fits fresh now earlier (holds before) (holds after) asks.keeps sound)
+
+  -- at the moments before the next
+  past_turned : (turn : Turn Key) → Turns fits (fresh now) holds after_ask after_purge turn before after → Sound fits fresh earlier (holds before) → Sound fits fresh (moments_after turn (now ∷ earlier)) (holds after)
+  past_turned purged emptied sound = sound_empty fits fresh [] (holds after) emptied.empty
+  past_turned (asked_for k) asks sound = sound_kept fits fresh now earlier (holds before) (holds after) asks.keeps (sound_later fits fresh now earlier (holds before) sound)
+  past_turned left asks sound = sound_kept fits fresh now earlier (holds before) (holds after) asks.keeps (sound_later fits fresh now earlier (holds before) sound)
 
   sound_turned : (turn : Turn Key) → Turns fits (fresh now) holds after_ask after_purge turn before after → Sound fits fresh (now ∷ earlier) (holds before) → Sound fits fresh (new ∷ moments_after turn (now ∷ earlier)) (holds after)
   sound_turned purged emptied sound = sound_empty fits fresh (new ∷ []) (holds after) emptied.empty
@@ -84,6 +90,12 @@ module _ {A P : Type 0} (a : AccessSource A) (p : PageSource P) (s : State) (b d
         puts = ap (λ y. stored_by y x) (accesses_same Store (operand register address) 12 (scene_at s (shown a p b)) s.past (widths reaching turns) once (unchanged_keys reaching (record { access = same.access; page = same.page })));
       }
 
+met : (n : Scene) → MeetFreshly n
+met n = record {
+  access = λ k c e. met_fresh (n.shown.access k) (access_fresh n.real.word k) c e;
+  page = λ k c e. met_fresh (n.shown.page k) (page_fresh n.real.word k) c e;
+}
+
 module _ {A P : Type 0} (a : AccessSource A) (p : PageSource P) where
   -- what one call did, from these registers and this storage
   pub record Did (r : Registers) (v : View) (b : Sources A P) (c : Request) (o : Outcome) (r' : Registers) (v' : View) (d : Sources A P) : Type 0 where
@@ -105,7 +117,7 @@ module _ {A P : Type 0} (a : AccessSource A) (p : PageSource P) where
         } in
         let effect = effect_of c (scene_at s (shown a p b)) in
         let new = seen_now (next s (shown a p b) c) in (
-          record { came = here.came; once = once; now = now_of a p s b d once c here.access },
+          record { came = here.came; met = met (scene_at s (shown a p b)); once = once; now = now_of a p s b d once c here.access },
           record {
             registers = here.registers;
             view = here.view;
@@ -115,3 +127,14 @@ module _ {A P : Type 0} (a : AccessSource A) (p : PageSource P) where
             };
           },
         )
+
+  -- what both sources hold after one call was fresh at a moment before the next
+  pub held_past : (s : State) (b : Sources A P) (c : Request) (o : Outcome) (d : Sources A P) → Takes a p s b c o d → AreSound s.past (held a p b) → AreSound (next s (shown a p b) c).past (held a p d)
+  held_past s b c o d takes sound =
+      let effect = effect_of c (scene_at s (shown a p b)) in
+      let now = seen_now s in
+      let new = seen_now (next s (shown a p b) c) in
+      record {
+        access = past_turned AccessFits access_fresh a.holds a.after_ask a.after_purge now new s.past.access b.access d.access effect.access takes.access sound.access;
+        page = past_turned PageFits page_fresh p.holds p.after_ask p.after_purge now new s.past.page b.page d.page effect.page takes.page sound.page;
+      }

@@ -1,8 +1,9 @@
 -- What a call that translates makes is its whole effect.
-use Rattle.std.proofs.Common.{◌≡◌, Bool, true, false, cond, List, ℕ, length, Some, None, Option, ap, ap₂, ◌∙◌, subst}
+use Rattle.std.proofs.Common.{◌≡◌, Bool, true, false, cond, List, ℕ, length, Some, None, Option, ap, ap₂, ◌∙◌, subst, Ok, Err, OnErr, Result, is_ok}
 use Rattle.arch.specs.declared.call.Access.{Access}
 use Rattle.arch.specs.declared.call.Access.TheVariants.{Store}
 use Rattle.arch.specs.declared.call.Call.TheVariants as call
+use Rattle.arch.specs.declared.condition.Condition.{Condition}
 use Rattle.arch.specs.Walks.{Traced}
 use Rattle.storage.specs.declared.prefix.Prefixed.{Prefixed}
 use Rattle.storage.specs.declared.storage.Storage.{Ghosts as StorageGhosts}
@@ -17,7 +18,7 @@ use Rattle.machine.specs.declared.request.Outcome.TheVariants as outcome
 use Rattle.machine.specs.declared.request.Request.TheVariants as request
 use Rattle.machine.specs.declared.sources.Operand.{Operand}
 use Rattle.machine.specs.declared.sources.Sources.{Sources}
-use Rattle.machine.specs.Calls.{Makes, Reports, accesses, fetches, refuses_access, refuses_translation, stored_word, stores, translates}
+use Rattle.machine.specs.Calls.{Makes, Reports, accesses, fetches, refuses_access, refuses_translation, stores, translates}
 use Rattle.machine.specs.Effects.{LayerLeft, Performs, Turns, counted, turn_of, TurnsAccess, TurnsPage}
 use Rattle.machine.specs.Puts.{LayerAfter, after_puts_under, stored_by}
 use Rattle.machine.specs.Registers.{Registers}
@@ -42,6 +43,11 @@ access_turned a real = turned AccessFits (access_fresh real.word) a.holds a.afte
 
 page_turned : {P : Type 0} (p : PageSource P) (real : View) (key : Option PageKey) (before after : P) → AsksPage p real key before after → TurnsPage p real (turn_of key) before after
 page_turned p real = turned PageFits (page_fresh real.word) p.holds p.after_ask p.after_purge
+
+-- what holds where a result is an error
+undone : {X : Type 0} {P : Type 0} (r : Result X Condition) → OnErr r P → is_ok r ≡ false → P
+undone (Ok x) onerr e = absurd cc
+undone (Err c) onerr e = onerr
 
 layer_left : {S : Type 0} (prefix : ℕ) (before after : Prefixed S) (refused : Bool) → LayerAfter refused prefix before after → LayerLeft (cond refused None (Some prefix)) before after
 layer_left prefix before after true same = same
@@ -81,7 +87,7 @@ module _ {S A P : Type 0} (s : StorageGhosts S) (a : AccessSource A) (p : PageSo
 
   pub stored : (x : ℕ) {came : Counted (Unit {0})} → Makes a p (stores (operand register address) (length list)) (scene s a p r t b) b list came d list' → r' ≡ r
       → s.view t'.beneath ≡ after_puts_under r.prefix (stored_by ((accesses Store (operand register address) (length list)).gives (scene s a p r t b)).result x) (s.view t.beneath)
-      → (stored_word (operand register address) (length list) x (scene s a p r t b) ≡ None → t'.beneath ≡ t.beneath)
+      → OnErr came.result (t'.beneath ≡ t.beneath)
       → LayerAfter (refuses_access (operand register address) (length list)) r.prefix t t'
       → Performs s a p (request.Store register address x) r t b (outcome.Stored came) r' t' d
   stored x {came} makes registers storage beneath layer =
@@ -90,7 +96,7 @@ module _ {S A P : Type 0} (s : StorageGhosts S) (a : AccessSource A) (p : PageSo
         outcome = ap outcome.Stored (counted_is made.reports);
         registers = registers;
         storage = storage ∙ ap (λ l. after_puts_under r.prefix (stored_by ((accesses Store (operand register address) l).gives (scene s a p r t b)).result x) (s.view t.beneath)) places;
-        beneath = subst (λ l. stored_word (operand register address) l x (scene s a p r t b) ≡ None → t'.beneath ≡ t.beneath) places beneath;
+        beneath = undone came.result beneath;
         layer = layer_left r.prefix t t' (refuses_access (operand register address) 12) (subst (λ l. LayerAfter (refuses_access (operand register address) l) r.prefix t t') places layer);
         access = access_turned a (scene s a p r t b).real ((stores (operand register address) 12).access_key (scene s a p r t b)) b.access d.access made.access;
         page = page_turned p (scene s a p r t b).real ((stores (operand register address) 12).page_key (scene s a p r t b)) b.page d.page made.page;

@@ -15,4 +15,4 @@ pub returns-in-Store : goal.returns-in-Store
 returns-in-Store g c =
     let a = c.args in
     subst (λ (q : Request). Performs g.S.Storage g.A.Source g.P.Source q a.machine.now a.storage.now a.sources.now (outcome.Stored c.store.result) c.store.new.self c.store.new.storage c.store.new.sources) (sym c.in-Store.is)
-    (stored g.S.Storage g.A.Source g.P.Source (search rules) c.in-Store.register c.in-Store.address c.in-Store.value c.store.ensures.makes c.store.ensures.registers c.store.ensures.storage c.store.ensures.beneath c.store.ensures.layer)
+    (stored g.S.Storage g.A.Source g.P.Source (search rules) c.in-Store.register c.in-Store.address c.in-Store.value c.store.ensures.makes c.store.ensures.registers c.store.ensures.storage c.store.ensures.refused c.store.ensures.layer)

@@ -6,7 +6,7 @@ use Rattle.runs.proofs.running.run.Goals as goal
 pub loop-i-init : goal.loop-i-init
 loop-i-init g c =
     let v = g.S.Storage.view c.args.storage.now.beneath in
-    far_begins g.A.Source g.P.Source v c.new-machine.new.sources c.args.calls.now c.args.outcomes.now (c.new-machine.ensures.starts v)
+    far_begins g.A.Source g.P.Source v c.new-machine.new.sources c.args.calls.now c.args.outcomes.now {before = c.args.sources.now} (c.new-machine.ensures.starts v) c.new-machine.ensures.sources
 
 pub loop-i-preserved : goal.loop-i-preserved
 loop-i-preserved g c =

@@ -6,7 +6,7 @@ use Rattle.machine.specs.Orders.{fetch_store_conditions, real_found}
 use Rattle.machine.specs.Puts.{put_answer}
 use Rattle.machine.specs.Scene.{scene}
 use Rattle.machine.proofs.Accesses.{stored_there, ok_same, ordered_use}
-use Rattle.machine.proofs.Fresh.{answers_fresh, stores_same}
+use Rattle.machine.proofs.Fresh.{answers_fresh, stores_fresh, stores_same}
 use Rattle.machine.proofs.registers.Machine.store.Goals as goal
 
 pub returns-in-Ok-clause-done : goal.returns-in-Ok-clause-done
@@ -44,4 +44,18 @@ returns-in-Err-clause-law g c =
     let a = c.args in
     answers_fresh g.A.Source g.P.Source (λ s k x e. g.met.A.Source.shown_is_held s k x e) (λ s k x e. g.met.P.Source.shown_is_held s k x e)
     (stores a.operand (length a.list.now)) (stores_same a.operand (length a.list.now)) a.self.now (prefixed a.self.now.prefix (g.S.Storage.view a.storage.now.beneath)) a.sources.now c.accessed-reached.new.sources a.list.now c.accessed-reached.new.list
+    (record { result = Err c.in-Err.condition; count = c.accessed-reached.result.count }) (search rules)
+
+pub returns-in-Ok-clause-puts : goal.returns-in-Ok-clause-puts
+returns-in-Ok-clause-puts g c =
+    let a = c.args in
+    stores_fresh g.A.Source g.P.Source (λ s k x e. g.met.A.Source.shown_is_held s k x e) (λ s k x e. g.met.P.Source.shown_is_held s k x e)
+    a.operand (length a.list.now) a.value a.self.now (prefixed a.self.now.prefix (g.S.Storage.view a.storage.now.beneath)) a.sources.now c.accessed-reached.new.sources a.list.now c.accessed-reached.new.list
+    (record { result = c.put-result.result; count = c.accessed-reached.result.count }) (search rules)
+
+pub returns-in-Err-clause-puts : goal.returns-in-Err-clause-puts
+returns-in-Err-clause-puts g c =
+    let a = c.args in
+    stores_fresh g.A.Source g.P.Source (λ s k x e. g.met.A.Source.shown_is_held s k x e) (λ s k x e. g.met.P.Source.shown_is_held s k x e)
+    a.operand (length a.list.now) a.value a.self.now (prefixed a.self.now.prefix (g.S.Storage.view a.storage.now.beneath)) a.sources.now c.accessed-reached.new.sources a.list.now c.accessed-reached.new.list
     (record { result = Err c.in-Err.condition; count = c.accessed-reached.result.count }) (search rules)
