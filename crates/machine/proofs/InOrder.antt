@@ -1,12 +1,18 @@
 -- A translation that is walked afresh meets its conditions in the order of its table.
-use Rattle.std.proofs.Common.{◌≡◌, ℕ, Bool, true, false, cond, ◌&&◌, eqb, ltb, List, [], ◌∷◌, ◌++◌, get_or, Some, None, Option, refl, ap, ap₂, ◌∙◌}
+use Rattle.std.proofs.Common.{◌≡◌, ℕ, Bool, true, false, cond, ◌&&◌, eqb, ltb, List, [], ◌∷◌, ◌++◌, get_or, Some, None, Option, refl, ap, ap₂, ◌∙◌, ◌%◌, not, Ok, Err, Result}
 use mathlib.Core.Path.{fun_ext}
 use Rattle.arch.specs.declared.call.Access.{Access}
 use Rattle.arch.specs.declared.condition.Condition.{Condition}
-use Rattle.arch.specs.declared.condition.Condition.TheVariants.{BadNumber, ShortList, Addressing, LowAddress, AccessList, Page, Key}
-use Rattle.arch.specs.Order.{Row, row, first_of, verdict, Ordered}
+use Rattle.arch.specs.declared.condition.Condition.TheVariants.{BadNumber, ShortList, Addressing, LowAddress, AccessList, Page, Key, Unaligned}
+use Rattle.arch.specs.Order.{Row, row, first_of, verdict, Ordered, value}
 use Rattle.arch.specs.Walks.{Traced, given, onward, then}
 use Rattle.arch.proofs.Ordered.{ordered_then}
+use Rattle.arch.specs.declared.call.Access.TheVariants.{Fetch, Store}
+use Rattle.lookup.specs.declared.access.AccessKey.{AccessKey}
+use Rattle.lookup.specs.declared.page.PageAnswer.{PageAnswer}
+use Rattle.lookup.specs.declared.page.PageKey.{PageKey}
+use Rattle.machine.specs.Puts.{put_answer}
+use Rattle.machine.proofs.Accesses.{fetched_there, stored_there}
 use Rattle.storage.specs.Views.{View, block_of}
 use Rattle.lookup.specs.declared.access.AccessAnswer.{AccessAnswer}
 use Rattle.lookup.specs.Lookups.{access_fresh, page_fresh}
@@ -17,8 +23,8 @@ use Rattle.machine.specs.declared.mode.Mode.{Mode}
 use Rattle.machine.specs.declared.mode.Mode.TheVariants.{DatOff, Primary, AccessRegister, Secondary, Home}
 use Rattle.machine.specs.declared.sources.Operand.{Operand}
 use Rattle.machine.specs.Registers.{Registers}
-use Rattle.machine.specs.Orders.{plain, token_space, register_space, mode_space, lookup_conditions, space_conditions, space_real, reach_conditions, real_found, reaching_conditions, translation_conditions, OrderedOverBare}
-use Rattle.machine.specs.Calls.{translates}
+use Rattle.machine.specs.Orders.{plain, token_space, register_space, mode_space, lookup_conditions, space_conditions, space_real, reach_conditions, real_found, reaching_conditions, translation_conditions, OrderedOverBare, fetch_store_conditions, value_found}
+use Rattle.machine.specs.Calls.{translates, accesses, fetches, stores, plainly, value_there}
 use Rattle.machine.specs.Scene.{Scene}
 use Rattle.machine.specs.Translation.{unless, is_store, cut, control, access_key, real_address, key_protected, held_in, looked_up, space_of_token, space_of_register, space_by_mode, token_asks, register_asks, mode_asks, low_protected, page_key, framed, real_of, reached, reach, translation}
 
@@ -93,3 +99,39 @@ translation_ordered n access o places (none_a, none_p) =
     ap₂ (λ x y. (translation n.registers x y n.real access o places).result) (bare_asks n.shown.access (access_fresh n.real.word) none_a) (bare_asks n.shown.page (page_fresh n.real.word) none_p)
     ∙ unless_first BadNumber (ltb 15 o.register) (then (unless ShortList (ltb places 12)) (λ _. afresh)) (row ShortList (ltb places 12) ∷ rows) real
     (unless_first ShortList (ltb places 12) afresh rows real (reaching_ordered n access o))
+
+-- a fetch or a store meets the conditions of its translation in order, after its own
+access_ordered : (n : Scene) (access : Access) (o : Operand) (places : ℕ) → OrderedOverBare n (λ m. fetch_store_conditions m access o places) (λ m. real_found m access o) ((accesses access o places).gives n).result
+access_ordered n access o places (none_a, none_p) =
+    let afresh = reach n.registers (access_fresh n.real.word) (page_fresh n.real.word) n.real access o in
+    ap₂ (λ x y. (over x y).result) (bare_asks n.shown.access (access_fresh n.real.word) none_a) (bare_asks n.shown.page (page_fresh n.real.word) none_p)
+    ∙ by (ltb 15 o.register) (not (eqb (o.address % 8) 0)) (ltb places 12)
+  where
+    over : (AccessKey → Traced AccessAnswer) → (PageKey → Traced PageAnswer) → Traced ℕ
+    over asks finds =
+        then (unless BadNumber (ltb 15 o.register)) (λ _. then (unless Unaligned (not (eqb (o.address % 8) 0))) (λ _. then (unless ShortList (ltb places 12)) (λ _. translation n.registers asks finds n.real access o places)))
+
+    by : (p q u : Bool) → Ordered (row BadNumber p ∷ row Unaligned q ∷ row ShortList u ∷ reaching_conditions n access o) (real_found n access o)
+        (then (unless BadNumber p) (λ _. then (unless Unaligned q) (λ _. then (unless ShortList u) (λ _. then (unless BadNumber p) (λ _. then (unless ShortList u) (λ _. reach n.registers (access_fresh n.real.word) (page_fresh n.real.word) n.real access o)))))).result
+    by true q u = refl
+    by false true u = refl
+    by false false true = refl
+    by false false false = reaching_ordered n access o
+
+-- an answer in order, put to use
+ordered_use : {X : Type 0} (rows : List Row) (real : ℕ) (s : Traced ℕ) (k : ℕ → Traced X) (f : ℕ → X) → Ordered rows real s.result → ((y : ℕ) → s.result ≡ Ok y → (k y).result ≡ Ok (f y)) → Ordered rows (f real) (then s k).result
+ordered_use {X} rows real s k f ordered used = by s.result (first_of rows) refl ordered
+  where
+    by : (r : Result ℕ Condition) (o : Option Condition) → s.result ≡ r → r ≡ verdict o real → (onward s.trace r k).result ≡ verdict o (f real)
+    by (Ok y) None e v = let same : y ≡ real = cc in used y e ∙ ap (λ a. Ok (f a)) same
+    by (Ok y) (Some c) e v = absurd cc
+    by (Err d) None e v = absurd cc
+    by (Err d) (Some c) e v = cc
+
+pub fetch_ordered : (n : Scene) (o : Operand) (places : ℕ) → OrderedOverBare n (λ m. fetch_store_conditions m Fetch o places) (λ m. value_found m Fetch o) ((fetches o places).gives n).result
+fetch_ordered n o places bare =
+    ordered_use (fetch_store_conditions n Fetch o places) (real_found n Fetch o) ((accesses Fetch o places).gives n) (λ real. plainly (value_there (n.real.word real))) (value n.real.word) (access_ordered n Fetch o places bare) (λ y e. fetched_there n Fetch o places y e)
+
+pub store_ordered : (n : Scene) (o : Operand) (places : ℕ) → OrderedOverBare n (λ m. fetch_store_conditions m Store o places) (λ _. tt) ((stores o places).gives n).result
+store_ordered n o places bare =
+    ordered_use (fetch_store_conditions n Store o places) (real_found n Store o) ((accesses Store o places).gives n) (λ real. plainly (put_answer n.real real)) (λ _. tt) (access_ordered n Store o places bare) (λ y e. stored_there n Store o places y e)

@@ -2,8 +2,12 @@
 use Rattle.std.specs.Prelude.{◌≡◌, ℕ, ◌*◌, ◌/◌, ◌≤◌, ◌⊎◌, List, [], ◌∷◌, length, is_some, Some, Ok, Err, Option, Result, nat_lt}
 use Rattle.std.specs.List.{AllByRecursion}
 use Rattle.arch.specs.declared.call.Access.{Access}
+use Rattle.arch.specs.declared.call.Access.TheVariants.{Fetch, Store}
+use Rattle.arch.specs.declared.call.Call.{Call}
+use Rattle.arch.specs.declared.call.Call.TheVariants as call
 use Rattle.arch.specs.declared.condition.Condition.{Condition}
 use Rattle.arch.specs.declared.condition.Condition.TheVariants.{BadNumber, ShortList, LowAddress}
+use Rattle.arch.specs.Order.{Ordered}
 use Rattle.arch.specs.Walks.{Traced, then, Agree}
 use Rattle.storage.specs.Prefixes.{prefixed}
 use Rattle.storage.specs.Views.{View, block_of}
@@ -16,10 +20,12 @@ use Rattle.machine.specs.declared.counted.Counted.{Counted}
 use Rattle.machine.specs.declared.request.Outcome.{Outcome}
 use Rattle.machine.specs.declared.request.Outcome.TheVariants as outcome
 use Rattle.machine.specs.declared.request.Request.{Request}
+use Rattle.machine.specs.declared.request.Request.TheVariants as request
 use Rattle.machine.specs.declared.sources.Operand.{Operand}
 use Rattle.machine.specs.declared.sources.Sources.{Sources}
 use Rattle.machine.specs.Calls.{Translating, stored_word, stores, translates}
-use Rattle.machine.specs.Effects.{Turn, purged, asked_for, left, Effect, effect_of, TurnsAccess, TurnsPage}
+use Rattle.machine.specs.Effects.{places, Turn, purged, asked_for, left, Effect, effect_of, TurnsAccess, TurnsPage}
+use Rattle.machine.specs.Orders.{fetch_store_conditions, real_found, translation_conditions, value_found}
 use Rattle.machine.specs.Puts.{after_puts_under}
 use Rattle.machine.specs.Registers.{Registers, zero_registers}
 use Rattle.machine.specs.Scene.{AccessSource, PageSource, Held, held, Scene, Shown, ask_access, ask_page, bare, seen, shown, unshown}
@@ -130,12 +136,35 @@ pub record MeetFreshly (n : Scene) : Type 0 where
   pub access : (k : AccessKey) (met : Condition) → (ask_access n k).result ≡ Err met → (access_fresh n.real.word k).result ≡ Err met
   pub page : (k : PageKey) (met : Condition) → (ask_page n k).result ≡ Err met → (page_fresh n.real.word k).result ≡ Err met
 
+-- BY THE TABLE. What came of a call that translates, over bare sources: its answer exactly where no condition of its
+-- table applies, else the first that does.
+abbrev pub LineByTable : Scene → Call → Outcome → Type 0
+LineByTable n (call.LoadControl register value) o = Unit {0}
+LineByTable n (call.LoadAccess register value) o = Unit {0}
+LineByTable n (call.LoadMode mode size key) o = Unit {0}
+LineByTable n (call.SetPrefix p) o = Unit {0}
+LineByTable n (call.Translate access register address) o =
+    (x : Counted ℕ) → o ≡ outcome.Translated x
+    → Ordered (translation_conditions n access (record { register = register; address = address }) places) (real_found n access (record { register = register; address = address })) x.result
+LineByTable n (call.Put a x) o = Unit {0}
+LineByTable n (call.Purge source) o = Unit {0}
+
+abbrev pub ByTable : Scene → Request → Outcome → Type 0
+ByTable n (request.Line c) o = LineByTable n c o
+ByTable n (request.Fetch register address) o =
+    (x : Counted ℕ) → o ≡ outcome.Fetched x
+    → Ordered (fetch_store_conditions n Fetch (record { register = register; address = address }) places) (value_found n Fetch (record { register = register; address = address })) x.result
+ByTable n (request.Store register address value) o =
+    (x : Counted (Unit {0})) → o ≡ outcome.Stored x
+    → Ordered (fetch_store_conditions n Store (record { register = register; address = address }) places) tt x.result
+
 -- THE RECORD. What came of a call, and the law of it.
 pub record KeepsLaw (s : State) (shown : Shown) (c : Request) (o : Outcome) : Type 0 where
   pub came : o ≡ (effect_of c (scene_at s shown)).outcome
   pub met : MeetFreshly (scene_at s shown)
   pub once : ShowFreshOnce (since (seen_now s) s.past) shown
   pub now : FreshNow s shown c
+  pub by_table : Unchanged s c → ByTable (scene_at s bare) c o
 
 -- HELD. Every pair held was fresh at one of these moments.
 abbrev pub Sound : {Key Answer : Type 0} → (Key → Type 0) → ((ℕ → Option ℕ) → Key → Traced Answer) → List (ℕ → Option ℕ) → (Key → Answer → Type 0) → Type 0

@@ -1,9 +1,11 @@
 -- Where a machine and its sources stand from call to call.
-use Rattle.std.proofs.Common.{◌≡◌, ℕ, List, [], ◌∷◌, Some, None, Option, refl, ap, subst₂}
+use Rattle.std.proofs.Common.{◌≡◌, ℕ, List, [], ◌∷◌, Some, None, Option, refl, ap, subst₂, ◌∙◌, sym, Result}
 use Rattle.arch.specs.declared.call.Access.TheVariants.{Store}
 use Rattle.arch.specs.declared.call.Call.TheVariants as call
+use Rattle.arch.specs.declared.condition.Condition.{Condition}
 use Rattle.arch.specs.declared.call.SourceName.TheVariants.{AccessRegister, Page}
 use Rattle.arch.specs.Walks.{Traced}
+use Rattle.machine.proofs.InOrder.{fetch_ordered, store_ordered, translation_ordered}
 use Rattle.storage.specs.Prefixes.{prefixed}
 use Rattle.storage.specs.Views.{View}
 use Rattle.lookup.specs.declared.access.AccessAnswer.{AccessAnswer}
@@ -13,6 +15,7 @@ use Rattle.lookup.specs.declared.page.PageKey.{PageKey}
 use Rattle.lookup.specs.Access.{AccessFits}
 use Rattle.lookup.specs.Lookups.{access_fresh, page_fresh}
 use Rattle.lookup.specs.Spelling.{PageFits}
+use Rattle.machine.specs.declared.counted.Counted.{Counted}
 use Rattle.machine.specs.declared.request.Outcome.{Outcome}
 use Rattle.machine.specs.declared.request.Outcome.TheVariants as outcome
 use Rattle.machine.specs.declared.request.Request.{Request}
@@ -20,10 +23,10 @@ use Rattle.machine.specs.declared.request.Request.TheVariants as request
 use Rattle.machine.specs.declared.sources.Sources.{Sources}
 use Rattle.machine.specs.Calls.{Translating, accesses, fetches, stores, translates}
 use Rattle.machine.specs.Effects.{Turn, Turns, purged, asked_for, left, turn_of, effect_of, TurnsAccess, TurnsPage}
-use Rattle.machine.specs.Law.{AreSound, AreUnchanged, MeetFreshly, Takes, FreshNow, IsUnchanged, KeepsLaw, ShowFreshOnce, Sound, Stands, State, moments_after, next, scene_at, seen_now, since}
+use Rattle.machine.specs.Law.{AreSound, AreUnchanged, MeetFreshly, Takes, FreshNow, IsUnchanged, KeepsLaw, ShowFreshOnce, Sound, Stands, State, moments_after, next, scene_at, seen_now, since, ByTable, SameButCount, uncounted_outcome}
 use Rattle.machine.specs.Puts.{after_puts_under, stored_by}
 use Rattle.machine.specs.Registers.{Registers}
-use Rattle.machine.specs.Scene.{AccessSource, PageSource, Scene, bare, held, seen, shown}
+use Rattle.machine.specs.Scene.{AccessSource, PageSource, Scene, bare, held, seen, shown, IsBare, Shown}
 use Rattle.machine.specs.Turns.{Asked}
 use Rattle.machine.proofs.Fresh.{accesses_same, fetches_same, stores_same, translates_same}
 use Rattle.machine.proofs.Sound.{met_fresh, sound_empty, sound_kept, sound_later, sound_shown}
@@ -90,6 +93,40 @@ module _ {A P : Type 0} (a : AccessSource A) (p : PageSource P) (s : State) (b d
         puts = ap (λ y. stored_by y x) (accesses_same Store (operand register address) 12 (scene_at s (shown a p b)) s.past (widths reaching turns) once (unchanged_keys reaching (record { access = same.access; page = same.page })));
       }
 
+translated_same : {a b : Result ℕ Condition} → outcome.Translated (record { result = a; count = 0 }) ≡ outcome.Translated (record { result = b; count = 0 }) → a ≡ b
+translated_same {a} {b} e = let whole : ◌≡◌ {A = Counted ℕ} (record { result = a; count = 0 }) (record { result = b; count = 0 }) = cc in ap (λ x. x.result) whole
+
+fetched_same : {a b : Result ℕ Condition} → outcome.Fetched (record { result = a; count = 0 }) ≡ outcome.Fetched (record { result = b; count = 0 }) → a ≡ b
+fetched_same {a} {b} e = let whole : ◌≡◌ {A = Counted ℕ} (record { result = a; count = 0 }) (record { result = b; count = 0 }) = cc in ap (λ x. x.result) whole
+
+stored_same : {a b : Result (Unit {0}) Condition} → outcome.Stored (record { result = a; count = 0 }) ≡ outcome.Stored (record { result = b; count = 0 }) → a ≡ b
+stored_same {a} {b} e = let whole : ◌≡◌ {A = Counted (Unit {0})} (record { result = a; count = 0 }) (record { result = b; count = 0 }) = cc in ap (λ x. x.result) whole
+
+-- what came of a call is told by its table where nothing changed
+bare_is : IsBare bare
+bare_is = (λ k. refl, λ k. refl)
+
+module _ (s : State) (shown : Shown) (o : Outcome) where
+  by_table_of : (c : Request) → o ≡ (effect_of c (scene_at s shown)).outcome → SameButCount (effect_of c (scene_at s shown)) (effect_of c (scene_at s bare)) → ByTable (scene_at s bare) c o
+  by_table_of (request.Line (call.LoadControl n x)) came same = tt
+  by_table_of (request.Line (call.LoadAccess n x)) came same = tt
+  by_table_of (request.Line (call.LoadMode mode size key)) came same = tt
+  by_table_of (request.Line (call.SetPrefix q)) came same = tt
+  by_table_of (request.Line (call.Translate access register address)) came same = λ x e.
+      let t = (translates access (operand register address) 12).gives (scene_at s bare) in
+      let r : x.result ≡ t.result = translated_same (ap uncounted_outcome (sym e ∙ came) ∙ same.outcome) in
+      r ∙ translation_ordered (scene_at s bare) access (operand register address) 12 bare_is
+  by_table_of (request.Line (call.Put q x)) came same = tt
+  by_table_of (request.Line (call.Purge source)) came same = tt
+  by_table_of (request.Fetch register address) came same = λ x e.
+      let t = (fetches (operand register address) 12).gives (scene_at s bare) in
+      let r : x.result ≡ t.result = fetched_same (ap uncounted_outcome (sym e ∙ came) ∙ same.outcome) in
+      r ∙ fetch_ordered (scene_at s bare) (operand register address) 12 bare_is
+  by_table_of (request.Store register address value) came same = λ x e.
+      let t = (stores (operand register address) 12).gives (scene_at s bare) in
+      let r : x.result ≡ t.result = stored_same (ap uncounted_outcome (sym e ∙ came) ∙ same.outcome) in
+      r ∙ store_ordered (scene_at s bare) (operand register address) 12 bare_is
+
 met : (n : Scene) → MeetFreshly n
 met n = record {
   access = λ k c e. met_fresh (n.shown.access k) (access_fresh n.real.word k) c e;
@@ -117,7 +154,7 @@ module _ {A P : Type 0} (a : AccessSource A) (p : PageSource P) where
         } in
         let effect = effect_of c (scene_at s (shown a p b)) in
         let new = seen_now (next s (shown a p b) c) in (
-          record { came = here.came; met = met (scene_at s (shown a p b)); once = once; now = now_of a p s b d once c here.access },
+          record { came = here.came; met = met (scene_at s (shown a p b)); once = once; now = now_of a p s b d once c here.access; by_table = λ unchanged. by_table_of s (shown a p b) o c here.came (now_of a p s b d once c here.access unchanged) },
           record {
             registers = here.registers;
             view = here.view;
