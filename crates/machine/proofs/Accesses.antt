@@ -1,10 +1,10 @@
 -- A fetch or a store meets the conditions of its translation, and no other: what its translation comes to is a multiple
 -- of 8 whose doubleword is there.
-use Rattle.std.proofs.Common.{◌≡◌, ℕ, ◌*◌, ◌/◌, ◌%◌, Bool, true, false, cond, not, ◌&&◌, eqb, ltb, List, is_some, Some, None, Ok, Err, Option, Result, unwrap_or, refl, ap, ◌∙◌, subst, arith, eq-eqb, eqb-true}
+use Rattle.std.proofs.Common.{◌≡◌, ℕ, ◌*◌, ◌/◌, ◌%◌, Bool, true, false, cond, not, ◌&&◌, eqb, ltb, is_some, Some, None, Ok, Err, Option, Result, unwrap_or, refl, ap, ◌∙◌, subst, arith, eq-eqb, eqb-true}
 use Rattle.arch.specs.declared.call.Access.{Access}
 use Rattle.arch.specs.declared.condition.Condition.{Condition}
 use Rattle.arch.specs.declared.condition.Condition.TheVariants.{BadNumber, Unaligned, ShortList, LowAddress, Addressing, AccessList, Page, Key}
-use Rattle.arch.specs.Order.{Row, first_of, verdict, value}
+use Rattle.arch.specs.Order.{value}
 use Rattle.arch.specs.Walks.{Traced, given, onward, then}
 use Rattle.storage.specs.Views.{View, block_of}
 use Rattle.lookup.specs.declared.access.AccessAnswer.{AccessAnswer}
@@ -95,11 +95,3 @@ module _ (n : Scene) (access : Access) (o : Operand) (places y : ℕ) (came : ((
   pub stored_there : put_answer n.real y ≡ Ok tt
   stored_there =
       ap (λ b. cond b (cond (is_some (n.real.word y)) (Ok tt) (Err Addressing)) (Err Unaligned)) (eq-eqb _ _ accessed_there.0) ∙ ap (λ b. cond b (Ok tt) (Err Addressing)) accessed_there.1
-
--- an answer in order, put to use
-pub ordered_use : {X : Type 0} (rows : List Row) (real y : ℕ) (f : ℕ → X) → Ok y ≡ verdict (first_of rows) real → ◌≡◌ {A = Result X Condition} (Ok (f y)) (verdict (first_of rows) (f real))
-ordered_use {X} rows real y f e = by (first_of rows) e
-  where
-    by : (o : Option Condition) → Ok y ≡ verdict o real → ◌≡◌ {A = Result X Condition} (Ok (f y)) (verdict o (f real))
-    by None e = ap (λ a. Ok (f a)) (ok_same e)
-    by (Some c) e = absurd cc

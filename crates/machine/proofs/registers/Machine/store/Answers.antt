@@ -2,11 +2,11 @@ use Rattle.std.proofs.Common.{◌≡◌, Err, rules, length, sym, ap, ap₂, ◌
 use Rattle.arch.specs.declared.call.Access.TheVariants.{Store}
 use Rattle.storage.specs.Prefixes.{prefixed}
 use Rattle.machine.specs.Calls.{stores}
-use Rattle.machine.specs.Orders.{fetch_store_conditions, real_found}
 use Rattle.machine.specs.Puts.{put_answer}
 use Rattle.machine.specs.Scene.{scene}
-use Rattle.machine.proofs.Accesses.{stored_there, ok_same, ordered_use}
+use Rattle.machine.proofs.Accesses.{stored_there, ok_same}
 use Rattle.machine.proofs.Fresh.{answers_fresh, stores_fresh, stores_same}
+use Rattle.machine.proofs.InOrder.{store_ordered}
 use Rattle.machine.proofs.registers.Machine.store.Goals as goal
 
 pub returns-in-Ok-clause-done : goal.returns-in-Ok-clause-done
@@ -23,14 +23,9 @@ returns-in-Ok-clause-done g c real e =
 pub returns-in-Ok-clause-order : goal.returns-in-Ok-clause-order
 returns-in-Ok-clause-order g c bare =
     let a = c.args in
-    let view = prefixed a.self.now.prefix (g.S.Storage.view a.storage.now.beneath) in
     let n = scene g.S.Storage g.A.Source g.P.Source a.self.now a.storage.now a.sources.now in
-    let reached = c.accessed-reached.ensures in
-    let came = sym reached.makes.reports.result ∙ c.in-Ok.is in
-    let same : prefixed c.accessed-reached.new.self.prefix (g.S.Storage.view c.accessed-reached.new.storage.beneath) ≡ view = ap₂ (λ r b. prefixed r.prefix (g.S.Storage.view b)) reached.registers reached.storage in
-    let gave = c.put-result.ensures.result ∙ ap (λ v. put_answer v c.in-Ok.real) same in
-    gave ∙ stored_there n Store a.operand (length a.list.now) c.in-Ok.real came
-    ∙ ordered_use (fetch_store_conditions n Store a.operand (length a.list.now)) (real_found n Store a.operand) c.in-Ok.real (λ _. tt) (sym c.in-Ok.is ∙ reached.order bare)
+    let gave : c.put-result.result ≡ ((stores a.operand (length a.list.now)).gives n).result = search rules in
+    gave ∙ store_ordered n a.operand (length a.list.now) bare
 
 pub returns-in-Ok-clause-law : goal.returns-in-Ok-clause-law
 returns-in-Ok-clause-law g c =
