@@ -3,7 +3,7 @@ ghost use Rattle.std.specs.Prelude.{◌≡◌, length, OnErr};
 ghost use Rattle.arch.specs.declared.call.Access.TheVariants.{Fetch, Store};
 ghost use Rattle.machine.specs.Calls.{FetchesThere, Makes, StoresThere, accesses, fetches, refuses_access, stored_word, stores, value_there};
 ghost use Rattle.machine.specs.Law.{AnswersFresh, StoresFresh};
-ghost use Rattle.machine.specs.Orders.{OrderedOverBare, fetch_store_conditions, real_found, value_found};
+ghost use Rattle.machine.specs.Orders.{OrderedIn, fetch_store_conditions, real_found, value_found};
 ghost use Rattle.machine.specs.Puts.{LayerAfter, after_puts_under};
 ghost use Rattle.machine.specs.Scene.{held, scene};
 ghost use Rattle.storage.specs.Layer.{prefix_of};
@@ -48,7 +48,7 @@ impl Machine {
         ensures storage { storage.new.beneath ≡ storage.old.beneath }
         ensures layer { LayerAfter (refuses_access operand (length list.old)) self.old.prefix
             storage.old storage.new }
-        ensures order { OrderedOverBare
+        ensures order { OrderedIn
             (scene S.Storage A.Source P.Source self.old storage.old sources.old)
             (λ n. fetch_store_conditions n access operand (length list.old))
             (λ n. real_found n access operand) result.result }
@@ -68,9 +68,8 @@ impl Machine {
         self.translate(storage, sources, access, operand, list)
     }
 
-    // Fetches the doubleword at an address, by an access register. With sources that show nothing
-    // it comes to the value at the real address exactly where no condition of its table applies,
-    // and else to the first that does.
+    // Fetches the doubleword at an address, by an access register. It comes to the value at the real
+    // address exactly where no condition of its table applies, and else to the first that does.
     pub fn fetch<S: Storage, A: Source<AccessRegister>, P: Source<Paging>>(
         &mut self,
         storage: &mut Prefixed<S>,
@@ -87,7 +86,7 @@ impl Machine {
         ensures storage { storage.new.beneath ≡ storage.old.beneath }
         ensures layer { LayerAfter (refuses_access operand (length list.old)) self.old.prefix
             storage.old storage.new }
-        ensures order { OrderedOverBare
+        ensures order { OrderedIn
             (scene S.Storage A.Source P.Source self.old storage.old sources.old)
             (λ n. fetch_store_conditions n Fetch operand (length list.old))
             (λ n. value_found n Fetch operand) result.result }
@@ -106,8 +105,8 @@ impl Machine {
         }
     }
 
-    // Stores the doubleword at an address, by an access register. With sources that show nothing it
-    // is done exactly where no condition of its table applies, and else the first that does is met.
+    // Stores the doubleword at an address, by an access register. It is done exactly where no
+    // condition of its table applies, and else the first that does is met.
     pub fn store<S: Storage, A: Source<AccessRegister>, P: Source<Paging>>(
         &mut self,
         storage: &mut Prefixed<S>,
@@ -129,7 +128,7 @@ impl Machine {
         ensures refused { OnErr result.result (storage.new.beneath ≡ storage.old.beneath) }
         ensures layer { LayerAfter (refuses_access operand (length list.old)) self.old.prefix
             storage.old storage.new }
-        ensures order { OrderedOverBare
+        ensures order { OrderedIn
             (scene S.Storage A.Source P.Source self.old storage.old sources.old)
             (λ n. fetch_store_conditions n Store operand (length list.old))
             (λ _. tt) result.result }

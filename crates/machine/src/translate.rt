@@ -2,7 +2,7 @@
 ghost use Rattle.std.specs.Prelude.{◌≡◌, length};
 ghost use Rattle.machine.specs.Calls.{Makes, translates, refuses_translation};
 ghost use Rattle.machine.specs.Law.{AnswersAsItsLike, AnswersFresh};
-ghost use Rattle.machine.specs.Orders.{OrderedOverBare, real_found, translation_conditions};
+ghost use Rattle.machine.specs.Orders.{OrderedIn, real_found, translation_conditions};
 ghost use Rattle.machine.specs.Puts.{LayerAfter};
 ghost use Rattle.machine.specs.Scene.{held, scene};
 
@@ -19,8 +19,9 @@ use storage::storage::Storage;
 
 impl Machine {
     // Translates an address, for a fetch or a store, by an access register. The addresses asked for
-    // are written to the first places of the list. With sources that show nothing it comes to an
-    // address exactly where no condition of its table applies, and else to the first that does.
+    // are written to the first places of the list. It comes to an address exactly where no condition
+    // of its table applies, and else to the first that does; where a source shows the answer of a
+    // lookup, the table is without the conditions of that lookup.
     pub fn translate<S: Storage, A: Source<AccessRegister>, P: Source<Paging>>(
         &mut self,
         storage: &mut Prefixed<S>,
@@ -36,7 +37,7 @@ impl Machine {
         ensures storage { storage.new.beneath ≡ storage.old.beneath }
         ensures layer { LayerAfter (refuses_translation operand (length list.old)) self.old.prefix
             storage.old storage.new }
-        ensures order { OrderedOverBare
+        ensures order { OrderedIn
             (scene S.Storage A.Source P.Source self.old storage.old sources.old)
             (λ n. translation_conditions n access operand (length list.old))
             (λ n. real_found n access operand) result.result }

@@ -26,7 +26,7 @@ use Rattle.machine.specs.Effects.{Turn, Turns, purged, asked_for, left, turn_of,
 use Rattle.machine.specs.Law.{AreSound, AreUnchanged, MeetFreshly, Takes, FreshNow, IsUnchanged, KeepsLaw, ShowFreshOnce, Sound, Stands, State, moments_after, next, scene_at, seen_now, since, ByTable, SameButCount, uncounted_outcome}
 use Rattle.machine.specs.Puts.{after_puts_under, stored_by}
 use Rattle.machine.specs.Registers.{Registers}
-use Rattle.machine.specs.Scene.{AccessSource, PageSource, Scene, bare, held, seen, shown, IsBare, Shown}
+use Rattle.machine.specs.Scene.{AccessSource, PageSource, Scene, bare, held, seen, shown, Shown}
 use Rattle.machine.specs.Turns.{Asked}
 use Rattle.machine.proofs.Fresh.{accesses_same, fetches_same, stores_same, translates_same}
 use Rattle.machine.proofs.Sound.{met_fresh, sound_empty, sound_kept, sound_later, sound_shown}
@@ -103,9 +103,6 @@ stored_same : {a b : Result (Unit {0}) Condition} → outcome.Stored (record { r
 stored_same {a} {b} e = let whole : ◌≡◌ {A = Counted (Unit {0})} (record { result = a; count = 0 }) (record { result = b; count = 0 }) = cc in ap (λ x. x.result) whole
 
 -- what came of a call is told by its table where nothing changed
-bare_is : IsBare bare
-bare_is = (λ k. refl, λ k. refl)
-
 module _ (s : State) (shown : Shown) (o : Outcome) where
   by_table_of : (c : Request) → o ≡ (effect_of c (scene_at s shown)).outcome → SameButCount (effect_of c (scene_at s shown)) (effect_of c (scene_at s bare)) → ByTable (scene_at s bare) c o
   by_table_of (request.Line (call.LoadControl n x)) came same = tt
@@ -115,17 +112,17 @@ module _ (s : State) (shown : Shown) (o : Outcome) where
   by_table_of (request.Line (call.Translate access register address)) came same = λ x e.
       let t = (translates access (operand register address) 12).gives (scene_at s bare) in
       let r : x.result ≡ t.result = translated_same (ap uncounted_outcome (sym e ∙ came) ∙ same.outcome) in
-      r ∙ translation_ordered (scene_at s bare) access (operand register address) 12 bare_is
+      r ∙ translation_ordered (scene_at s bare) access (operand register address) 12
   by_table_of (request.Line (call.Put q x)) came same = tt
   by_table_of (request.Line (call.Purge source)) came same = tt
   by_table_of (request.Fetch register address) came same = λ x e.
       let t = (fetches (operand register address) 12).gives (scene_at s bare) in
       let r : x.result ≡ t.result = fetched_same (ap uncounted_outcome (sym e ∙ came) ∙ same.outcome) in
-      r ∙ fetch_ordered (scene_at s bare) (operand register address) 12 bare_is
+      r ∙ fetch_ordered (scene_at s bare) (operand register address) 12
   by_table_of (request.Store register address value) came same = λ x e.
       let t = (stores (operand register address) 12).gives (scene_at s bare) in
       let r : x.result ≡ t.result = stored_same (ap uncounted_outcome (sym e ∙ came) ∙ same.outcome) in
-      r ∙ store_ordered (scene_at s bare) (operand register address) 12 bare_is
+      r ∙ store_ordered (scene_at s bare) (operand register address) 12
 
 met : (n : Scene) → MeetFreshly n
 met n = record {

@@ -21,11 +21,11 @@ returns-in-Ok-clause-done g c real e =
     gave ∙ ap (λ x. put_answer view x) (ok_same (sym came ∙ e)) ∙ stored_there n Store a.operand (length a.list.now) real e
 
 pub returns-in-Ok-clause-order : goal.returns-in-Ok-clause-order
-returns-in-Ok-clause-order g c bare =
+returns-in-Ok-clause-order g c =
     let a = c.args in
     let n = scene g.S.Storage g.A.Source g.P.Source a.self.now a.storage.now a.sources.now in
     let gave : c.put-result.result ≡ ((stores a.operand (length a.list.now)).gives n).result = search rules in
-    gave ∙ store_ordered n a.operand (length a.list.now) bare
+    gave ∙ store_ordered n a.operand (length a.list.now)
 
 pub returns-in-Ok-clause-law : goal.returns-in-Ok-clause-law
 returns-in-Ok-clause-law g c =

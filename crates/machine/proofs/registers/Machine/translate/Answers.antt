@@ -21,7 +21,7 @@ returns g c =
       registers = search rules;
       storage = search rules;
       layer = search rules;
-      order = λ bare. makes.reports.result ∙ translation_ordered (scene g.S.Storage g.A.Source g.P.Source a.self.now a.storage.now a.sources.now) a.access a.operand places bare;
+      order = makes.reports.result ∙ translation_ordered (scene g.S.Storage g.A.Source g.P.Source a.self.now a.storage.now a.sources.now) a.access a.operand places;
       law = answers_fresh g.A.Source g.P.Source (λ s k a e. g.met.A.Source.shown_is_held s k a e) (λ s k a e. g.met.P.Source.shown_is_held s k a e)
           (translates a.access a.operand places) (translates_same a.access a.operand places) a.self.now (prefixed a.self.now.prefix (g.S.Storage.view a.storage.now.beneath)) a.sources.now _ a.list.now _ _ makes;
       alike = λ n. answers_alike _ a.access a.operand places n;
