@@ -29,11 +29,11 @@ impl<K: Kind, T: Table, B: Source<K>> Source<K> for Lookaside<T, B> {
         (λ w f. T.found_is_in_a_row s.table (K.key_words k) w f)
         (λ b f. B.shown_is_held s.beneath k b f) a e };
 
-    fn ask<S: Storage>(
+    fn ask<S: Storage, R: Trace>(
         &mut self,
         storage: &S,
         key: K::Key,
-        trace: &mut Trace,
+        trace: &mut R,
     ) -> Result<K::Answer, Condition> {
         let words = K::spell(key);
         if let Some(answer) = self.table.find(words) {

@@ -36,10 +36,10 @@ struct AccessEntry {
 }
 
 // The address of the access-list entry.
-fn locate<S: Storage>(storage: &S, key: AccessKey, trace: &mut Trace) -> Result<u128, Condition>
-    requires { length trace.old.items + 1 ≤ 12 }
+fn locate<S: Storage, T: Trace>(storage: &S, key: AccessKey, trace: &mut T) -> Result<u128, Condition>
+    requires { length (T.addresses trace.old) + 1 ≤ T.room }
     ensures walked { Walks 1 access_limit (S.view storage.now).word (locating key)
-        trace.old.items trace.new.items result }
+        (T.addresses trace.old) (T.addresses trace.new) result }
     ensures small { IfOk result (λ at. at < 2 ^ 64) }
 {
     let alet = u64::from(key.alet);
@@ -54,15 +54,15 @@ fn locate<S: Storage>(storage: &S, key: AccessKey, trace: &mut Trace) -> Result<
 }
 
 // The first doubleword of the access-list entry, valid and of the token's sequence.
-fn entry_first<S: Storage>(
+fn entry_first<S: Storage, T: Trace>(
     storage: &S,
     key: AccessKey,
     at: u128,
-    trace: &mut Trace,
+    trace: &mut T,
 ) -> Result<u64, Condition>
-    requires { length trace.old.items + 1 ≤ 12 }
+    requires { length (T.addresses trace.old) + 1 ≤ T.room }
     ensures { Walks 1 access_limit (S.view storage.now).word (entry_first key at)
-        trace.old.items trace.new.items result }
+        (T.addresses trace.old) (T.addresses trace.new) result }
 {
     let first = read(storage, at, LIMIT, trace)?;
     check(Condition::AlenTranslation, flag(first, 0))?;
@@ -74,16 +74,16 @@ fn entry_first<S: Storage>(
 }
 
 // Both doublewords of the access-list entry.
-fn entry<S: Storage>(
+fn entry<S: Storage, T: Trace>(
     storage: &S,
     key: AccessKey,
     at: u128,
-    trace: &mut Trace,
+    trace: &mut T,
 ) -> Result<AccessEntry, Condition>
     requires small { at < 2 ^ 64 }
-    requires room { length trace.old.items + 2 ≤ 12 }
+    requires room { length (T.addresses trace.old) + 2 ≤ T.room }
     ensures { Walks 2 access_limit (S.view storage.now).word (entering key at)
-        trace.old.items trace.new.items result }
+        (T.addresses trace.old) (T.addresses trace.new) result }
 {
     let first = entry_first(storage, key, at, trace)?;
     let second = read(storage, at + 8, LIMIT, trace)?;
@@ -91,10 +91,10 @@ fn entry<S: Storage>(
 }
 
 // The first doubleword of the ASTE, the ASN-second-table entry, valid.
-fn aste_first<S: Storage>(storage: &S, second: u64, trace: &mut Trace) -> Result<u64, Condition>
-    requires { length trace.old.items + 1 ≤ 12 }
+fn aste_first<S: Storage, T: Trace>(storage: &S, second: u64, trace: &mut T) -> Result<u64, Condition>
+    requires { length (T.addresses trace.old) + 1 ≤ T.room }
     ensures { Walks 1 access_limit (S.view storage.now).word (aste_first second)
-        trace.old.items trace.new.items result }
+        (T.addresses trace.old) (T.addresses trace.new) result }
 {
     let first = read(storage, u128::from(field(second, 1, 25) * 64), LIMIT, trace)?;
     check(Condition::AsteValidity, flag(first, 0))?;
@@ -102,10 +102,10 @@ fn aste_first<S: Storage>(storage: &S, second: u64, trace: &mut Trace) -> Result
 }
 
 // Its third doubleword has the sequence number of the access-list entry.
-fn aste_sequence<S: Storage>(storage: &S, second: u64, trace: &mut Trace) -> Result<(), Condition>
-    requires { length trace.old.items + 1 ≤ 12 }
+fn aste_sequence<S: Storage, T: Trace>(storage: &S, second: u64, trace: &mut T) -> Result<(), Condition>
+    requires { length (T.addresses trace.old) + 1 ≤ T.room }
     ensures { Walks 1 access_limit (S.view storage.now).word (aste_sequence second)
-        trace.old.items trace.new.items result }
+        (T.addresses trace.old) (T.addresses trace.new) result }
 {
     let third = read(
         storage,
@@ -119,10 +119,10 @@ fn aste_sequence<S: Storage>(storage: &S, second: u64, trace: &mut Trace) -> Res
     )
 }
 
-fn aste<S: Storage>(storage: &S, second: u64, trace: &mut Trace) -> Result<u64, Condition>
-    requires { length trace.old.items + 2 ≤ 12 }
+fn aste<S: Storage, T: Trace>(storage: &S, second: u64, trace: &mut T) -> Result<u64, Condition>
+    requires { length (T.addresses trace.old) + 2 ≤ T.room }
     ensures { Walks 2 access_limit (S.view storage.now).word (second_table second)
-        trace.old.items trace.new.items result }
+        (T.addresses trace.old) (T.addresses trace.new) result }
 {
     let first = aste_first(storage, second, trace)?;
     aste_sequence(storage, second, trace)?;
@@ -130,15 +130,15 @@ fn aste<S: Storage>(storage: &S, second: u64, trace: &mut Trace) -> Result<u64, 
 }
 
 // Whether the authority table grants the secondary bit of an index.
-fn secondary<S: Storage>(
+fn secondary<S: Storage, T: Trace>(
     storage: &S,
     eax: u16,
     aste: u64,
-    trace: &mut Trace,
+    trace: &mut T,
 ) -> Result<(), Condition>
-    requires { length trace.old.items + 1 ≤ 12 }
+    requires { length (T.addresses trace.old) + 1 ≤ T.room }
     ensures { Walks 1 access_limit (S.view storage.now).word (has_secondary eax aste)
-        trace.old.items trace.new.items result }
+        (T.addresses trace.old) (T.addresses trace.new) result }
 {
     let index = u64::from(eax);
     check(
@@ -152,16 +152,16 @@ fn secondary<S: Storage>(
 }
 
 // A private entry whose own index differs from the program's asks for authority.
-fn authorized<S: Storage>(
+fn authorized<S: Storage, T: Trace>(
     storage: &S,
     key: AccessKey,
     first: u64,
     aste: u64,
-    trace: &mut Trace,
+    trace: &mut T,
 ) -> Result<(), Condition>
-    requires { length trace.old.items + 1 ≤ 12 }
+    requires { length (T.addresses trace.old) + 1 ≤ T.room }
     ensures { Walks 1 access_limit (S.view storage.now).word (authorizing key first aste)
-        trace.old.items trace.new.items result }
+        (T.addresses trace.old) (T.addresses trace.new) result }
 {
     if flag(first, 7) && field(first, 16, 31) != u64::from(key.eax) {
         return secondary(storage, key.eax, aste, trace);
@@ -170,14 +170,14 @@ fn authorized<S: Storage>(
 }
 
 // The whole lookup, walked afresh.
-pub(crate) fn walk<S: Storage>(
+pub(crate) fn walk<S: Storage, T: Trace>(
     storage: &S,
     key: AccessKey,
-    trace: &mut Trace,
+    trace: &mut T,
 ) -> Result<AccessAnswer, Condition>
-    requires { length trace.old.items + 7 ≤ 12 }
+    requires { length (T.addresses trace.old) + 7 ≤ T.room }
     ensures { Walks 7 access_limit (S.view storage.now).word (access_walk key)
-        trace.old.items trace.new.items result }
+        (T.addresses trace.old) (T.addresses trace.new) result }
 {
     let at = locate(storage, key, trace)?;
     let found = entry(storage, key, at, trace)?;

@@ -38,14 +38,14 @@ pub trait Kind {
 
     // Walks the tables, noting each address asked for at the end of the trace. It comes to what it
     // finds exactly where no condition of its table applies, else to the first that does.
-    fn walk<S: Storage>(
+    fn walk<S: Storage, T: Trace>(
         storage: &S,
         key: Self::Key,
-        trace: &mut Trace,
+        trace: &mut T,
     ) -> Result<Self::Answer, Condition>
-        requires { length trace.old.items + most_reads ≤ 12 }
+        requires { length (T.addresses trace.old) + most_reads ≤ T.room }
         ensures gives { Gives most_reads (fresh (S.view storage.now).word key)
-            trace.old.items trace.new.items result }
+            (T.addresses trace.old) (T.addresses trace.new) result }
         ensures order { Ordered (conditions (S.view storage.now).word key)
             (finds (S.view storage.now).word key) result };
 

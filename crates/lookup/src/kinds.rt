@@ -46,10 +46,10 @@ impl Kind for AccessRegister {
 
     ghost answer_back = { Prim.search rules };
 
-    fn walk<S: Storage>(
+    fn walk<S: Storage, T: Trace>(
         storage: &S,
         key: AccessKey,
-        trace: &mut Trace,
+        trace: &mut T,
     ) -> Result<AccessAnswer, Condition> {
         access::walk(storage, key, trace)
     }
@@ -106,10 +106,10 @@ impl Kind for Paging {
 
     ghost answer_back = { Prim.search rules };
 
-    fn walk<S: Storage>(
+    fn walk<S: Storage, T: Trace>(
         storage: &S,
         key: PageKey,
-        trace: &mut Trace,
+        trace: &mut T,
     ) -> Result<PageAnswer, Condition> {
         page::walk(storage, key, trace)
     }

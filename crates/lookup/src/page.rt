@@ -90,15 +90,15 @@ fn index(level: u8, page: u64) -> u64
 }
 
 // A valid entry, of the type of its table.
-fn valid_entry<S: Storage>(
+fn valid_entry<S: Storage, T: Trace>(
     storage: &S,
     level: u8,
     at: u128,
-    trace: &mut Trace,
+    trace: &mut T,
 ) -> Result<u64, Condition>
-    requires { length trace.old.items + 1 ≤ 12 }
+    requires { length (T.addresses trace.old) + 1 ≤ T.room }
     ensures { Walks 1 page_limit (S.view storage.now).word (valid_entry level at)
-        trace.old.items trace.new.items result }
+        (T.addresses trace.old) (T.addresses trace.new) result }
 {
     let entry = read(storage, at, LIMIT, trace)?;
     check(condition_of(level), flag(entry, 58))?;
@@ -110,17 +110,17 @@ fn valid_entry<S: Storage>(
 }
 
 // The entry of a table that a page number leads to.
-fn table_entry<S: Storage>(
+fn table_entry<S: Storage, T: Trace>(
     storage: &S,
     level: u8,
     table: Table,
     page: u64,
-    trace: &mut Trace,
+    trace: &mut T,
 ) -> Result<u64, Condition>
     requires level { level < 4 }
-    requires room { length trace.old.items + 1 ≤ 12 }
+    requires room { length (T.addresses trace.old) + 1 ≤ T.room }
     ensures { Walks 1 page_limit (S.view storage.now).word (entry_of level table page)
-        trace.old.items trace.new.items result }
+        (T.addresses trace.old) (T.addresses trace.new) result }
 {
     let index = index(level, page);
     check(condition_of(level), table.lacks(index))?;
@@ -133,15 +133,15 @@ fn table_entry<S: Storage>(
 }
 
 // The page entry under a segment entry.
-fn page_entry<S: Storage>(
+fn page_entry<S: Storage, T: Trace>(
     storage: &S,
     segment: u64,
     page: u64,
-    trace: &mut Trace,
+    trace: &mut T,
 ) -> Result<PageAnswer, Condition>
-    requires { length trace.old.items + 1 ≤ 12 }
+    requires { length (T.addresses trace.old) + 1 ≤ T.room }
     ensures { Walks 1 page_limit (S.view storage.now).word (final_entry segment page)
-        trace.old.items trace.new.items result }
+        (T.addresses trace.old) (T.addresses trace.new) result }
 {
     let origin = u128::from(field(segment, 0, 52)) * 2048;
     let entry = read(storage, origin + u128::from(8 * (page % 256)), LIMIT, trace)?;
@@ -157,16 +157,16 @@ fn page_entry<S: Storage>(
 }
 
 // A segment entry, which is not common where the space is private, and the page entry under it.
-fn segment<S: Storage>(
+fn segment<S: Storage, T: Trace>(
     storage: &S,
     table: Table,
     private: bool,
     page: u64,
-    trace: &mut Trace,
+    trace: &mut T,
 ) -> Result<PageAnswer, Condition>
-    requires { length trace.old.items + 2 ≤ 12 }
+    requires { length (T.addresses trace.old) + 2 ≤ T.room }
     ensures { Walks 2 page_limit (S.view storage.now).word (descending 0 table private page)
-        trace.old.items trace.new.items result }
+        (T.addresses trace.old) (T.addresses trace.new) result }
 {
     let entry = table_entry(storage, 0, table, page, trace)?;
     check(
@@ -177,19 +177,19 @@ fn segment<S: Storage>(
 }
 
 // From a table of some level down to the page.
-fn descend<S: Storage>(
+fn descend<S: Storage, T: Trace>(
     storage: &S,
     level: u8,
     table: Table,
     private: bool,
     page: u64,
-    trace: &mut Trace,
+    trace: &mut T,
 ) -> Result<PageAnswer, Condition>
     requires level { level < 4 }
-    requires room { length trace.old.items + (level + 2) ≤ 12 }
+    requires room { length (T.addresses trace.old) + (level + 2) ≤ T.room }
     ensures { Walks (level + 2) page_limit (S.view storage.now).word
         (descending level table private page)
-        trace.old.items trace.new.items result }
+        (T.addresses trace.old) (T.addresses trace.new) result }
 {
     if level == 0 {
         return segment(storage, table, private, page, trace);
@@ -206,15 +206,15 @@ fn descend<S: Storage>(
 }
 
 // Through the tables that an element designates.
-fn through_tables<S: Storage>(
+fn through_tables<S: Storage, T: Trace>(
     storage: &S,
     asce: u64,
     page: u64,
-    trace: &mut Trace,
+    trace: &mut T,
 ) -> Result<PageAnswer, Condition>
-    requires { length trace.old.items + 5 ≤ 12 }
+    requires { length (T.addresses trace.old) + 5 ≤ T.room }
     ensures { Walks 5 page_limit (S.view storage.now).word (by_tables asce page)
-        trace.old.items trace.new.items result }
+        (T.addresses trace.old) (T.addresses trace.new) result }
 {
     let level = field(asce, 60, 61) as u8;
     check(Condition::AsceType, (page >> (8 + 11 * level)) / 2048 != 0)?;
@@ -222,14 +222,14 @@ fn through_tables<S: Storage>(
 }
 
 // The whole lookup, walked afresh. In a real space the frame is the page, unprotected.
-pub(crate) fn walk<S: Storage>(
+pub(crate) fn walk<S: Storage, T: Trace>(
     storage: &S,
     key: PageKey,
-    trace: &mut Trace,
+    trace: &mut T,
 ) -> Result<PageAnswer, Condition>
-    requires { length trace.old.items + 5 ≤ 12 }
+    requires { length (T.addresses trace.old) + 5 ≤ T.room }
     ensures { Walks 5 page_limit (S.view storage.now).word (page_walk key)
-        trace.old.items trace.new.items result }
+        (T.addresses trace.old) (T.addresses trace.new) result }
 {
     if flag(key.asce, 58) {
         return Ok(PageAnswer {

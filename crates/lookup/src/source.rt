@@ -24,16 +24,16 @@ pub trait Source<K: Kind> {
     // Gives the shown answer and lists nothing; with none shown it gives the fresh result and lists
     // each address asked for. What it holds afterwards it held before, or is its key's fresh
     // answer.
-    fn ask<S: Storage>(
+    fn ask<S: Storage, T: Trace>(
         &mut self,
         storage: &S,
         key: K::Key,
-        trace: &mut Trace,
+        trace: &mut T,
     ) -> Result<K::Answer, Condition>
-        requires { length trace.old.items + K.most_reads ≤ 12 }
+        requires { length (T.addresses trace.old) + K.most_reads ≤ T.room }
         ensures gives { Gives K.most_reads
             (asked (shows self.old key) (K.fresh (S.view storage.now).word key))
-            trace.old.items trace.new.items result }
+            (T.addresses trace.old) (T.addresses trace.new) result }
         ensures keeps { Kept K.fits (K.fresh (S.view storage.now).word) (holds self.old)
             (holds self.new) }
         ensures after { after_ask self.old (K.fresh (S.view storage.now).word) key self.new };
@@ -63,11 +63,11 @@ impl<K: Kind> Source<K> for TableWalk {
 
     ghost shown_is_held = { λ _ _ _ e. none_is_not_some e };
 
-    fn ask<S: Storage>(
+    fn ask<S: Storage, T: Trace>(
         &mut self,
         storage: &S,
         key: K::Key,
-        trace: &mut Trace,
+        trace: &mut T,
     ) -> Result<K::Answer, Condition> {
         K::walk(storage, key, trace)
     }

@@ -10,22 +10,22 @@ use storage::storage::Storage;
 
 // Reads one doubleword of a table. An address that reaches the limit is refused and not listed; any
 // other is listed, also where its doubleword is absent.
-pub(crate) fn read<S: Storage>(
+pub(crate) fn read<S: Storage, T: Trace>(
     storage: &S,
     at: u128,
     limit: u128,
-    trace: &mut Trace,
+    trace: &mut T,
 ) -> Result<u64, Condition>
     requires limit { limit ≤ 2 ^ 64 }
-    requires room { length trace.old.items < 12 }
+    requires room { length (T.addresses trace.old) < T.room }
     ensures { Walks 1 limit (S.view storage.now).word (reading at)
-        trace.old.items trace.new.items result }
+        (T.addresses trace.old) (T.addresses trace.new) result }
 {
     if at >= limit {
         return Err(Condition::Addressing);
     }
     let address = at as u64;
-    trace.push(address);
+    trace.note(address);
     storage.fetch(address).ok_or(Condition::Addressing)
 }
 

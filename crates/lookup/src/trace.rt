@@ -1,6 +1,32 @@
-// The addresses that a call asked for.
+// Where a lookup notes the addresses that it asks for.
+ghost use Rattle.std.specs.Prelude.{◌≡◌, ℕ, ◌<◌, ◌++◌, ◌∷◌, [], List, length};
+
 use arrayvec::ArrayVec;
 
-// The addresses of the doublewords that a call asked for, in order. A translation asks for at most
-// twelve: seven in the access-register lookup and five in the page lookup.
-pub type Trace = ArrayVec<u64, 12>;
+// A list of addresses with room for so many, whoever made it.
+pub trait Trace {
+    // The addresses noted, in order.
+    ghost addresses: { Self → List ℕ };
+
+    // How many it has room for.
+    ghost room: { ℕ };
+
+    // Notes an address after the others.
+    fn note(&mut self, address: u64)
+        requires { length (addresses self.old) < room }
+        ensures { addresses self.new ≡ addresses self.old ++ (address ∷ []) };
+}
+
+impl<const N: usize> Trace for ArrayVec<u64, N> {
+    ghost addresses = { λ t. t.items };
+
+    ghost room = { N };
+
+    fn note(&mut self, address: u64) {
+        self.push(address);
+    }
+}
+
+// The addresses of the doublewords that a call of the machine asks for. A translation asks for at
+// most twelve: seven in the access-register lookup and five in the page lookup.
+pub type CallTrace = ArrayVec<u64, 12>;
