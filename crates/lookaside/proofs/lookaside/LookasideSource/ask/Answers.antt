@@ -24,7 +24,7 @@ returns g c =
     subst₂ (λ x y. (k a : Words) → g.T.Table.has_pair table k a → g.T.Table.has_pair s.table k a ⊎ ((k ≡ x) × (a ≡ y))) words c.write.ensures c.note.ensures.pairs in
     let noted = subst₂ (λ x y. g.T.Table.after_note s.table x y table) words c.write.ensures c.note.ensures.rows in
     record {
-      gives = subst (λ o. Gives kind.most_reads (asked (own_or_beneath kind.answer_of o (source.shows s.beneath key)) (fresh key)) c.args.trace.now.items c.ask.new.trace.items (Ok answer)) (sym none) below.gives;
+      gives = subst (λ o. Gives kind.most_reads (asked (own_or_beneath kind.answer_of o (source.shows s.beneath key)) (fresh key)) (g.R.Trace.addresses c.args.trace.now) (g.R.Trace.addresses c.ask.new.trace) (Ok answer)) (sym none) below.gives;
       keeps = noted_kept kind.fits fresh kind.key_words kind.answer_words kind.answer_of (g.T.Table.has_pair s.table) (g.T.Table.has_pair table) (source.holds s.beneath) (source.holds beneath) (source.shows s.beneath) key answer
           notes below.keeps gave (λ a e. g.met.B.Source.shown_is_held s.beneath key a e) (λ j fit e. (g.met.K.Kind.distinct j key fit c.spell-words.ensures.fits).0 e) (g.met.K.Kind.answer_back answer);
       after = subst (λ o. UnlessFound o (source.after_ask s.beneath fresh key beneath × AfterAnswer kind.answer_words (g.T.Table.after_note s.table (kind.key_words key)) s.table (asked (source.shows s.beneath key) (fresh key)).result table) (record { table = table; beneath = beneath } ≡ s)) (sym none)
