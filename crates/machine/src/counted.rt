@@ -3,7 +3,7 @@ ghost use Rattle.std.specs.Prelude.{◌≡◌, ◌≤◌, length, Err};
 ghost use Rattle.machine.specs.Calls.{Reports, traced};
 
 use arch::condition::Condition;
-use lookup::trace::Trace;
+use lookup::trace::CallTrace;
 
 // What came of a call that lists addresses, and how many it listed.
 #[derive(Clone, Copy)]
@@ -24,7 +24,7 @@ impl<T> Counted<T> {
     }
 
     // A result, and the addresses of a trace, which go to the first places of a list.
-    pub(crate) fn of(came: Result<T, Condition>, trace: &Trace, list: &mut [u64]) -> Self
+    pub(crate) fn of(came: Result<T, Condition>, trace: &CallTrace, list: &mut [u64]) -> Self
         requires { 12 ≤ length list.old }
         ensures { Reports (traced came trace.now.items) list.old list.new result }
     {

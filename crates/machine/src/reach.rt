@@ -18,7 +18,7 @@ use lookup::kinds::{AccessRegister, Paging};
 use lookup::page::{PageAnswer, PageKey};
 use lookup::source::Source;
 use lookup::step::check;
-use lookup::trace::Trace;
+use lookup::trace::CallTrace;
 use storage::storage::Storage;
 
 fn stores(access: Access) -> bool
@@ -60,7 +60,7 @@ fn by_pages<S: Storage, P: Source<Paging>>(
     access: Access,
     space: AccessAnswer,
     address: u64,
-    trace: &mut Trace,
+    trace: &mut CallTrace,
 ) -> Result<u64, Condition>
     requires { length trace.old.items + 5 ≤ 12 }
     ensures gives { Gives 5
@@ -84,7 +84,7 @@ fn real_of<S: Storage, P: Source<Paging>>(
     access: Access,
     space: Option<AccessAnswer>,
     address: u64,
-    trace: &mut Trace,
+    trace: &mut CallTrace,
 ) -> Result<u64, Condition>
     requires { length trace.old.items + 5 ≤ 12 }
     ensures gives { Gives 5
@@ -139,7 +139,7 @@ impl Machine {
         sources: &mut Sources<A, P>,
         access: Access,
         operand: Operand,
-        trace: &mut Trace,
+        trace: &mut CallTrace,
     ) -> Result<u64, Condition>
         requires register { operand.register < 16 }
         requires empty { trace.old.items ≡ [] }

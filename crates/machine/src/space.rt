@@ -12,7 +12,7 @@ use arch::condition::Condition;
 use lookup::access::{AccessAnswer, AccessKey};
 use lookup::kinds::AccessRegister;
 use lookup::source::Source;
-use lookup::trace::Trace;
+use lookup::trace::CallTrace;
 use storage::storage::Storage;
 
 // A space whose element a control register holds.
@@ -48,7 +48,7 @@ impl Machine {
         storage: &S,
         source: &mut A,
         alet: u32,
-        trace: &mut Trace,
+        trace: &mut CallTrace,
     ) -> Result<Option<AccessAnswer>, Condition>
         requires { length trace.old.items + 7 ≤ 12 }
         ensures gives { Gives 7
@@ -68,7 +68,7 @@ impl Machine {
         storage: &S,
         source: &mut A,
         alet: u32,
-        trace: &mut Trace,
+        trace: &mut CallTrace,
     ) -> Result<Option<AccessAnswer>, Condition>
         requires { length trace.old.items + 7 ≤ 12 }
         ensures gives { Gives 7
@@ -91,7 +91,7 @@ impl Machine {
         storage: &S,
         source: &mut A,
         register: usize,
-        trace: &mut Trace,
+        trace: &mut CallTrace,
     ) -> Result<Option<AccessAnswer>, Condition>
         requires register { register < 16 }
         requires room { length trace.old.items + 7 ≤ 12 }
@@ -114,7 +114,7 @@ impl Machine {
         storage: &S,
         source: &mut A,
         register: usize,
-        trace: &mut Trace,
+        trace: &mut CallTrace,
     ) -> Result<Option<AccessAnswer>, Condition>
         requires register { register < 16 }
         requires room { length trace.old.items + 7 ≤ 12 }

@@ -13,7 +13,7 @@ use arch::call::Access;
 use arch::condition::Condition;
 use lookup::kinds::{AccessRegister, Paging};
 use lookup::source::Source;
-use lookup::trace::Trace;
+use lookup::trace::CallTrace;
 use storage::prefix::Prefixed;
 use storage::storage::Storage;
 
@@ -55,7 +55,7 @@ impl Machine {
             return Counted::refused(Condition::ShortList);
         }
         storage.load_prefix(self.prefix);
-        let mut trace = Trace::new();
+        let mut trace = CallTrace::new();
         let real = self.reach(storage, sources, access, operand, &mut trace);
         Counted::of(real, &trace, list)
     }
