@@ -36,7 +36,11 @@ struct AccessEntry {
 }
 
 // The address of the access-list entry.
-fn locate<S: Storage, T: Trace>(storage: &S, key: AccessKey, trace: &mut T) -> Result<u128, Condition>
+fn locate<S: Storage, T: Trace>(
+    storage: &S,
+    key: AccessKey,
+    trace: &mut T,
+) -> Result<u128, Condition>
     requires { length (T.addresses trace.old) + 1 ≤ T.room }
     ensures walked { Walks 1 access_limit (S.view storage.now).word (locating key)
         (T.addresses trace.old) (T.addresses trace.new) result }
@@ -91,7 +95,11 @@ fn entry<S: Storage, T: Trace>(
 }
 
 // The first doubleword of the ASTE, the ASN-second-table entry, valid.
-fn aste_first<S: Storage, T: Trace>(storage: &S, second: u64, trace: &mut T) -> Result<u64, Condition>
+fn aste_first<S: Storage, T: Trace>(
+    storage: &S,
+    second: u64,
+    trace: &mut T,
+) -> Result<u64, Condition>
     requires { length (T.addresses trace.old) + 1 ≤ T.room }
     ensures { Walks 1 access_limit (S.view storage.now).word (aste_first second)
         (T.addresses trace.old) (T.addresses trace.new) result }
@@ -102,7 +110,11 @@ fn aste_first<S: Storage, T: Trace>(storage: &S, second: u64, trace: &mut T) -> 
 }
 
 // Its third doubleword has the sequence number of the access-list entry.
-fn aste_sequence<S: Storage, T: Trace>(storage: &S, second: u64, trace: &mut T) -> Result<(), Condition>
+fn aste_sequence<S: Storage, T: Trace>(
+    storage: &S,
+    second: u64,
+    trace: &mut T,
+) -> Result<(), Condition>
     requires { length (T.addresses trace.old) + 1 ≤ T.room }
     ensures { Walks 1 access_limit (S.view storage.now).word (aste_sequence second)
         (T.addresses trace.old) (T.addresses trace.new) result }

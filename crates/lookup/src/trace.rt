@@ -27,6 +27,9 @@ impl<const N: usize> Trace for ArrayVec<u64, N> {
     }
 }
 
-// The addresses of the doublewords that a call of the machine asks for. A translation asks for at
-// most twelve: seven in the access-register lookup and five in the page lookup.
-pub type CallTrace = ArrayVec<u64, 12>;
+// The most doublewords that a call of the machine asks for: seven in the access-register lookup and
+// five in the page lookup.
+pub const PLACES: usize = 12;
+
+// The addresses that a call asks for.
+pub type CallTrace = ArrayVec<u64, PLACES>;

@@ -1,5 +1,5 @@
 -- A translation meets its conditions in the order of its table.
-use Rattle.std.proofs.Common.{◌≡◌, ℕ, Bool, true, false, cond, ◌&&◌, eqb, ltb, List, [], ◌∷◌, ◌++◌, get_or, Some, None, Option, refl, ap, ap₂, ◌∙◌, ◌%◌, not, Ok, Err, Result}
+use Rattle.std.proofs.Common.{◌≡◌, ℕ, Bool, true, false, cond, ◌&&◌, eqb, ltb, List, [], ◌∷◌, ◌++◌, get_or, Some, None, Option, refl, ap, ◌∙◌, ◌%◌, not, Ok, Err, Result}
 use Rattle.arch.specs.declared.call.Access.{Access}
 use Rattle.arch.specs.declared.condition.Condition.{Condition}
 use Rattle.arch.specs.declared.condition.Condition.TheVariants.{BadNumber, ShortList, Addressing, LowAddress, AccessList, Page, Key, Unaligned}
@@ -8,7 +8,6 @@ use Rattle.arch.specs.Walks.{Traced, given, onward, then}
 use Rattle.arch.proofs.Ordered.{ordered_then}
 use Rattle.arch.specs.declared.call.Access.TheVariants.{Fetch, Store}
 use Rattle.lookup.specs.declared.access.AccessKey.{AccessKey}
-use Rattle.lookup.specs.declared.page.PageAnswer.{PageAnswer}
 use Rattle.lookup.specs.declared.page.PageKey.{PageKey}
 use Rattle.machine.specs.Puts.{put_answer}
 use Rattle.machine.proofs.Accesses.{fetched_there, stored_there}
@@ -25,7 +24,7 @@ use Rattle.machine.specs.Registers.{Registers}
 use Rattle.machine.specs.Orders.{page_key_conditions, page_of_key, shown_or, space_key_conditions, space_of_key, unless_shown, plain, token_space, register_space, mode_space, lookup_conditions, space_conditions, space_real, reach_conditions, real_found, reaching_conditions, translation_conditions, fetch_store_conditions, value_found}
 use Rattle.machine.specs.Calls.{translates, accesses, fetches, stores, plainly, value_there}
 use Rattle.machine.specs.Scene.{Scene, ask_access, ask_page}
-use Rattle.machine.specs.Translation.{unless, is_store, cut, control, access_key, real_address, key_protected, held_in, looked_up, space_of_token, space_of_register, space_by_mode, token_asks, register_asks, mode_asks, low_protected, page_key, framed, real_of, reached, reach, translation}
+use Rattle.machine.specs.Translation.{unless, is_store, cut, control, access_key, real_address, key_protected, held_in, looked_up, space_of_token, space_of_register, space_by_mode, token_asks, register_asks, mode_asks, low_protected, page_key, framed, real_of, reached, reach}
 
 unless_first : {B : Type 0} (c : Condition) (t : Bool) (s : Traced B) (rows : List Row) (b : B) → Ordered rows b s.result → Ordered (row c t ∷ rows) b (then (unless c t) (λ _. s)).result
 unless_first c true s rows b p = refl

@@ -16,6 +16,7 @@ use arch::call::Access;
 use arch::condition::Condition;
 use lookup::kinds::{AccessRegister, Paging};
 use lookup::source::Source;
+use lookup::trace::PLACES;
 use storage::prefix::Prefixed;
 use storage::storage::Storage;
 
@@ -62,7 +63,7 @@ impl Machine {
         if operand.address % 8 != 0 {
             return Counted::refused(Condition::Unaligned);
         }
-        if list.len() < 12 {
+        if list.len() < PLACES {
             return Counted::refused(Condition::ShortList);
         }
         self.translate(storage, sources, access, operand, list)

@@ -19,7 +19,7 @@ use lookup::page::{PageAnswer, PageKey};
 use lookup::source::Source;
 use lookup::step::check;
 use lookup::trace::CallTrace;
-use storage::storage::Storage;
+use storage::storage::{BLOCK_BYTES, Storage};
 
 fn stores(access: Access) -> bool
     ensures { result ≡ is_store access }
@@ -127,7 +127,7 @@ impl Machine {
         check(Condition::Addressing, storage.fetch(real / 8 * 8).is_none())?;
         check(
             Condition::Key,
-            key_protected(self.key, access, storage.key(real / 4096)),
+            key_protected(self.key, access, storage.key(real / BLOCK_BYTES)),
         )?;
         Ok(real)
     }

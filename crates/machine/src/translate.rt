@@ -13,7 +13,7 @@ use arch::call::Access;
 use arch::condition::Condition;
 use lookup::kinds::{AccessRegister, Paging};
 use lookup::source::Source;
-use lookup::trace::CallTrace;
+use lookup::trace::{CallTrace, PLACES};
 use storage::prefix::Prefixed;
 use storage::storage::Storage;
 
@@ -51,7 +51,7 @@ impl Machine {
         if operand.register > 15 {
             return Counted::refused(Condition::BadNumber);
         }
-        if list.len() < 12 {
+        if list.len() < PLACES {
             return Counted::refused(Condition::ShortList);
         }
         storage.load_prefix(self.prefix);

@@ -6,6 +6,7 @@ ghost use Rattle.machine.specs.Law.{GoesOn};
 use arch::call::Call;
 use lookup::kinds::{AccessRegister, Paging};
 use lookup::source::Source;
+use lookup::trace::PLACES;
 use machine::{Machine, Operand, Outcome, Request, Sources};
 use storage::prefix::Prefixed;
 use storage::storage::Storage;
@@ -37,7 +38,7 @@ fn line<S: Storage, A: Source<AccessRegister>, P: Source<Paging>>(
             address,
         } => {
             let operand = Operand { register, address };
-            let mut list = [0; 12];
+            let mut list = [0; PLACES];
             Outcome::Translated(machine.translate(storage, sources, access, operand, &mut list))
         }
         Call::Put { address, value } => Outcome::Put(machine.put(storage, address, value)),
@@ -62,7 +63,7 @@ fn perform<S: Storage, A: Source<AccessRegister>, P: Source<Paging>>(
         Request::Line(call) => line(machine, storage, sources, call),
         Request::Fetch { register, address } => {
             let operand = Operand { register, address };
-            let mut list = [0; 12];
+            let mut list = [0; PLACES];
             Outcome::Fetched(machine.fetch(storage, sources, operand, &mut list))
         }
         Request::Store {
@@ -71,7 +72,7 @@ fn perform<S: Storage, A: Source<AccessRegister>, P: Source<Paging>>(
             value,
         } => {
             let operand = Operand { register, address };
-            let mut list = [0; 12];
+            let mut list = [0; PLACES];
             Outcome::Stored(machine.store(storage, sources, operand, value, &mut list))
         }
     }

@@ -33,8 +33,8 @@ returns-then-operand-gt15-clause-law g c =
     answers_fresh g.A.Source g.P.Source (λ s k a e. g.met.A.Source.shown_is_held s k a e) (λ s k a e. g.met.P.Source.shown_is_held s k a e)
     (translates a.access a.operand (length a.list.now)) (translates_same a.access a.operand (length a.list.now)) a.self.now (prefixed a.self.now.prefix (g.S.Storage.view a.storage.now.beneath)) a.sources.now a.sources.now a.list.now a.list.now c.refused.result (search rules)
 
-pub returns-then-list-lt12-clause-law : goal.returns-then-list-lt12-clause-law
-returns-then-list-lt12-clause-law g c =
+pub returns-then-list-lt-PLACES-clause-law : goal.returns-then-list-lt-PLACES-clause-law
+returns-then-list-lt-PLACES-clause-law g c =
     let a = c.args in
     answers_fresh g.A.Source g.P.Source (λ s k a e. g.met.A.Source.shown_is_held s k a e) (λ s k a e. g.met.P.Source.shown_is_held s k a e)
-    (translates a.access a.operand (length a.list.now)) (translates_same a.access a.operand (length a.list.now)) a.self.now (prefixed a.self.now.prefix (g.S.Storage.view a.storage.now.beneath)) a.sources.now a.sources.now a.list.now a.list.now c.refused-then-list-lt12.result (search rules)
+    (translates a.access a.operand (length a.list.now)) (translates_same a.access a.operand (length a.list.now)) a.self.now (prefixed a.self.now.prefix (g.S.Storage.view a.storage.now.beneath)) a.sources.now a.sources.now a.list.now a.list.now c.refused-then-list-lt-PLACES.result (search rules)
