@@ -1,5 +1,5 @@
 -- What a call of a machine sees as it begins.
-use Rattle.std.specs.Prelude.{◌≡◌, None, Option}
+use Rattle.std.specs.Prelude.{None, Option}
 use Rattle.arch.specs.Walks.{Traced}
 use Rattle.storage.specs.declared.prefix.Prefixed.{Prefixed}
 use Rattle.storage.specs.declared.storage.Storage.{Ghosts as StorageGhosts}
@@ -35,9 +35,6 @@ shown a p sources = record { access = a.shows sources.access; page = p.shows sou
 -- bare sources show nothing
 abbrev pub bare : Shown
 bare = record { access = λ _. None; page = λ _. None }
-
-abbrev pub IsBare : Shown → Type 0
-IsBare s = ((k : AccessKey) → s.access k ≡ None) × ((k : PageKey) → s.page k ≡ None)
 
 -- the registers, the storage as real addresses reach it, and what both sources show
 pub record Scene : Type 0 where
