@@ -4,8 +4,8 @@
 
 ghost use Rattle.std.specs.Prelude.{◌≡◌, ◌+◌, ◌^◌, ◌<◌, ◌≤◌, map, length, replicate, IfOk, string_bytes};
 ghost use Rattle.lines.specs.Refusals.{refusal_line};
-ghost use Rattle.listing.specs.Listings.{places, RoomForAll, Recorded, ListsRun, Lists};
-ghost use Rattle.lookaside.specs.Rows.{empty_row};
+ghost use Rattle.listing.specs.Listings.{call_limit, places, RoomForAll, Recorded, ListsRun, Lists};
+ghost use Rattle.lookaside.specs.Rows.{direct_rows, empty_row, round_robin_rows};
 ghost use Rattle.runtext.specs.Runs.{Within, lent, run_in};
 ghost use Rattle.machine.specs.declared.request.Request.TheVariants.{Line};
 
@@ -31,8 +31,8 @@ mod print;
 pub type Stack = DirectMapped<RoundRobin<TableWalk>>;
 
 pub fn stack() -> Stack
-    ensures direct { result.table.rows ≡ replicate 64 empty_row }
-    ensures in_turn { (result.beneath.table.rows ≡ replicate 32 empty_row) ×
+    ensures direct { result.table.rows ≡ replicate direct_rows empty_row }
+    ensures in_turn { (result.beneath.table.rows ≡ replicate round_robin_rows empty_row) ×
         (result.beneath.table.next ≡ 0) }
 {
     DirectMapped {
@@ -121,7 +121,7 @@ fn list_within<A: Source<AccessRegister>, P: Source<Paging>>(
     mut places: Places<'_>,
     sources: &mut Sources<A, P>,
 ) -> Result<String, AllocError>
-    requires { length places.calls.now ≤ 16384 }
+    requires { length places.calls.now ≤ call_limit }
     ensures { IfOk result
         (λ out. Lists A.Source P.Source (lent places.entry) text.now
         (string_bytes out) sources.old sources.new) }
@@ -140,7 +140,8 @@ pub fn list<A: Source<AccessRegister>, P: Source<Paging>>(
     sources: &mut Sources<A, P>,
 ) -> Result<String, AllocError>
     ensures lists { IfOk result
-        (λ out. Lists A.Source P.Source places text.now (string_bytes out) sources.old sources.new) }
+        (λ out. Lists A.Source P.Source places text.now (string_bytes out)
+        sources.old sources.new) }
     ensures room { RoomForAll }
 {
     let mut words = vec![in heap; Word {
