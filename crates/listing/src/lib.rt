@@ -30,6 +30,7 @@ mod print;
 // over the walk.
 pub type Stack = DirectMapped<RoundRobin<TableWalk>>;
 
+// One with every row of both tables empty, and the round-robin one's first row to be written next.
 pub fn stack() -> Stack
     ensures direct { result.table.rows ≡ replicate direct_rows empty_row }
     ensures in_turn { (result.beneath.table.rows ≡ replicate round_robin_rows empty_row) ×
@@ -77,7 +78,7 @@ fn record<A: Source<AccessRegister>, P: Source<Paging>>(
     });
     match runs::run(&mut storage, sources, &requests, &mut outcomes) {
         Ok(()) => Ok(outcomes),
-        // there is a place for each outcome
+        // Places of outcomes are lent, and `run` refuses too few: here there is one for each call.
         Err(_) => unreachable(),
     }
 }
@@ -144,6 +145,7 @@ pub fn list<A: Source<AccessRegister>, P: Source<Paging>>(
         sources.old sources.new) }
     ensures room { RoomForAll }
 {
+    // The program `rewrite` lends its own as well: no crate below both has a heap.
     let mut words = vec![in heap; Word {
         address: 0,
         value: 0
