@@ -15,6 +15,8 @@ pub enum SourceName {
     Page,
 }
 
+// A call of a run, as its line gives it. Its numbers have 64 bits, and no other bound until it is
+// made.
 #[derive(Clone, Copy, PartialEq, Eq, Debug)]
 pub enum Call {
     LoadControl {

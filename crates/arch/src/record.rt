@@ -7,6 +7,9 @@ pub struct Word {
     pub value: u64,
 }
 
+// Block keys have five bits: each is less than this.
+pub const KEY_LIMIT: u8 = 32;
+
 // The key of a block of 4,096 bytes: four bits of access control, then the fetch bit.
 #[derive(Clone, Copy, PartialEq, Eq, Debug)]
 pub struct BlockKey {

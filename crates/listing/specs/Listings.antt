@@ -1,5 +1,5 @@
 -- What the listing of a run text is.
-use Rattle.std.specs.Prelude.{◌≡◌, ℕ, ◌+◌, ◌⊎◌, List, map, length}
+use Rattle.std.specs.Prelude.{◌≡◌, ℕ, ◌+◌, ◌/◌, ◌⊎◌, List, map, length}
 use Rattle.lines.specs.Refusals.{refusal_line}
 use Rattle.machine.specs.declared.request.Outcome.{Outcome}
 use Rattle.machine.specs.declared.request.Request.TheVariants.{Line}
@@ -8,15 +8,19 @@ use Rattle.machine.specs.Law.{Ran}
 use Rattle.machine.specs.Scene.{AccessSource, PageSource}
 use Rattle.runtext.specs.declared.Counts.{Counts}
 use Rattle.runtext.specs.declared.Refusal.{Refusal}
-use Rattle.runtext.specs.Runs.{Run, Spellable, Readable, Spells}
+use Rattle.runtext.specs.Runs.{Run, Spellable, Readable, Spells, word_limit, key_limit, byte_limit}
 use Rattle.runtext.specs.Verdicts.{Refused}
 use Rattle.storage.specs.Records.{sparse_view}
 use Rattle.storage.specs.Views.{View}
 use Rattle.listing.specs.Printing.{listing_of}
 
+-- More calls than any text has: a call's line has four bytes or more.
+abbrev pub call_limit : ℕ
+call_limit = byte_limit / 4
+
 -- the places that a listing has for what a text says
 abbrev pub places : Counts
-places = record { words = 1024; keys = 256; calls = 16384 }
+places = record { words = word_limit; keys = key_limit; calls = call_limit }
 
 -- these are places enough for every run that has a text
 abbrev pub RoomForAll : Type 0

@@ -4,8 +4,8 @@
 
 ghost use Rattle.std.specs.Prelude.{◌≡◌, ◌+◌, ◌^◌, ◌<◌, ◌≤◌, map, length, replicate, IfOk, string_bytes};
 ghost use Rattle.lines.specs.Refusals.{refusal_line};
-ghost use Rattle.listing.specs.Listings.{places, RoomForAll, Recorded, ListsRun, Lists};
-ghost use Rattle.lookaside.specs.Rows.{empty_row};
+ghost use Rattle.listing.specs.Listings.{call_limit, places, RoomForAll, Recorded, ListsRun, Lists};
+ghost use Rattle.lookaside.specs.Rows.{direct_rows, empty_row, round_robin_rows};
 ghost use Rattle.runtext.specs.Runs.{Within, lent, run_in};
 ghost use Rattle.machine.specs.declared.request.Request.TheVariants.{Line};
 
@@ -30,9 +30,10 @@ mod print;
 // over the walk.
 pub type Stack = DirectMapped<RoundRobin<TableWalk>>;
 
+// One with every row of both tables empty, and the round-robin one's first row to be written next.
 pub fn stack() -> Stack
-    ensures direct { result.table.rows ≡ replicate 64 empty_row }
-    ensures in_turn { (result.beneath.table.rows ≡ replicate 32 empty_row) ×
+    ensures direct { result.table.rows ≡ replicate direct_rows empty_row }
+    ensures in_turn { (result.beneath.table.rows ≡ replicate round_robin_rows empty_row) ×
         (result.beneath.table.next ≡ 0) }
 {
     DirectMapped {
@@ -77,7 +78,7 @@ fn record<A: Source<AccessRegister>, P: Source<Paging>>(
     });
     match runs::run(&mut storage, sources, &requests, &mut outcomes) {
         Ok(()) => Ok(outcomes),
-        // there is a place for each outcome
+        // Places of outcomes are lent, and `run` refuses too few: here there is one for each call.
         Err(_) => unreachable(),
     }
 }
@@ -121,7 +122,7 @@ fn list_within<A: Source<AccessRegister>, P: Source<Paging>>(
     mut places: Places<'_>,
     sources: &mut Sources<A, P>,
 ) -> Result<String, AllocError>
-    requires { length places.calls.now ≤ 16384 }
+    requires { length places.calls.now ≤ call_limit }
     ensures { IfOk result
         (λ out. Lists A.Source P.Source (lent places.entry) text.now
         (string_bytes out) sources.old sources.new) }
@@ -140,9 +141,11 @@ pub fn list<A: Source<AccessRegister>, P: Source<Paging>>(
     sources: &mut Sources<A, P>,
 ) -> Result<String, AllocError>
     ensures lists { IfOk result
-        (λ out. Lists A.Source P.Source places text.now (string_bytes out) sources.old sources.new) }
+        (λ out. Lists A.Source P.Source places text.now (string_bytes out)
+        sources.old sources.new) }
     ensures room { RoomForAll }
 {
+    // The program `rewrite` lends its own as well: no crate below both has a heap.
     let mut words = vec![in heap; Word {
         address: 0,
         value: 0

@@ -10,6 +10,7 @@ use lookup::words::Words;
 
 const ROWS: usize = 64;
 
+// 64 rows. A key's words have one row, and what is noted there displaces what it held.
 #[derive(Drop)]
 pub struct DirectMappedTable {
     pub rows: [Row; ROWS],
@@ -26,6 +27,7 @@ fn row_of(key: Words) -> usize
 }
 
 impl DirectMappedTable {
+    // With every row empty.
     pub fn new() -> Self
         ensures { result.rows ≡ replicate direct_rows empty_row }
     {

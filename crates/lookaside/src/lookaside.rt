@@ -8,6 +8,7 @@ use lookup::source::Source;
 use lookup::trace::Trace;
 use storage::storage::Storage;
 
+// A table and the source beneath it, which is asked where the table has no answer.
 #[derive(Drop)]
 pub struct Lookaside<T, B> {
     pub table: T,

@@ -10,6 +10,7 @@ use lookup::words::Words;
 
 const ROWS: usize = 32;
 
+// 32 rows, and the number of the row that is written next, from 0 to 31.
 #[derive(Drop)]
 pub struct RoundRobinTable {
     pub rows: [Row; ROWS],
@@ -21,6 +22,7 @@ pub struct RoundRobinTable {
 pub type RoundRobin<B> = Lookaside<RoundRobinTable, B>;
 
 impl RoundRobinTable {
+    // With every row empty, and the first to be written next.
     pub fn new() -> Self
         ensures rows { result.rows ≡ replicate round_robin_rows empty_row }
         ensures next { result.next ≡ 0 }

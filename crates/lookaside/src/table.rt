@@ -4,6 +4,7 @@ ghost use Rattle.lookup.specs.declared.words.Words.{Words};
 
 use lookup::words::Words;
 
+// Rows of pairs, of a key's words and its answer's. It gives at most one answer for a key.
 pub trait Table {
     // For the words of a key, the words of the answer that it gives, or none.
     ghost finds: { Self → Words → Option Words };

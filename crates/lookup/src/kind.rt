@@ -10,9 +10,12 @@ use crate::words::Words;
 use arch::condition::Condition;
 use storage::storage::Storage;
 
+// Lookups of one kind: a key is asked for, and its walk comes to an answer or to a condition.
 pub trait Kind {
+    // What is asked for.
     type Key: Copy;
 
+    // What is found.
     type Answer: Copy;
 
     // What its walk over the doublewords of a storage comes to, and the addresses that it asks for.

@@ -15,6 +15,7 @@ fn rewrite(rt: &HostRuntime) -> anyhow::Result<()> {
     // one byte more than the longest text: enough to know that it is too long
     let text = input::text(heap, rt.stdin(), BYTES + 1)?;
     let mut copy = vec![in heap; 0u8; BYTES]?;
+    // A listing lends its own as well: no crate below both has a heap.
     let mut words = vec![in heap; Word {
         address: 0,
         value: 0

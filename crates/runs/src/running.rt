@@ -36,7 +36,8 @@ pub fn run<S: Storage, A: Source<AccessRegister>, P: Source<Paging>>(
         return Err(Condition::ShortList);
     }
     let mut machine = Machine::new(sources);
-    // an outcome's place is that of its call
+    // An outcome's place is that of its call. `outcomes.iter_mut().zip(calls)` was tried and is not
+    // proved: what the loop wrote is not known once an adapter of `iter_mut` has gone over it.
     for (i, call) in calls.iter().enumerate() {
         outcomes[i] = answer(&mut machine, storage, sources, *call);
     }

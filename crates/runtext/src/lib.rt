@@ -50,7 +50,7 @@ pub struct Counts {
 }
 
 impl Counts {
-    // As many as these slices have.
+    // As many as these slices have: the three that a `Run` has, and `Places` too.
     pub(crate) fn of(words: &[Word], keys: &[BlockKey], calls: &[Call]) -> Counts
         ensures words { result.words ≡ length words.now }
         ensures keys { result.keys ≡ length keys.now }

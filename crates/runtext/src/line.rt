@@ -6,7 +6,7 @@ ghost use Rattle.runtext.specs.Reading.{Reads};
 use crate::cut::cut;
 use crate::number::number;
 use arch::call::{Access, Call, SourceName};
-use arch::record::{BlockKey, Word};
+use arch::record::{BlockKey, KEY_LIMIT, Word};
 
 // The first line of a run text.
 pub(crate) const FIRST_LINE: &[u8] = b"RUN\t1\n";
@@ -14,9 +14,6 @@ pub(crate) const FIRST_LINE: &[u8] = b"RUN\t1\n";
 pub(crate) const TAB: u8 = 9;
 
 pub(crate) const LINE_END: u8 = 10;
-
-// Block keys have five bits: each is less than this.
-const KEY_LIMIT: u64 = 32;
 
 // What a line after the first says.
 #[derive(Clone, Copy)]
@@ -79,7 +76,7 @@ pub(crate) fn sound(line: Line) -> bool
 {
     match line {
         Line::Doubleword(word) => word.address % 8 == 0,
-        Line::Key(key) => u64::from(key.key) < KEY_LIMIT,
+        Line::Key(key) => key.key < KEY_LIMIT,
         Line::Call(_) => true,
     }
 }
@@ -95,6 +92,7 @@ pub(crate) fn lone(field: &[u8]) -> Option<u8>
 }
 
 // What a letter stands for.
+// An impl has its table both ways, since each is a few lines, and two crates declare the types.
 pub(crate) trait Letter {
     ghost spelt: { Self → ℕ };
 
@@ -206,7 +204,7 @@ fn block_key(bytes: &[u8]) -> Option<Line>
     ensures { Reads result (λ l. Sound l × (kind_of l ≡ Kind.Key)) fields bytes.now }
 {
     let (block, key) = two_numbers(bytes)?;
-    if key < KEY_LIMIT {
+    if key < u64::from(KEY_LIMIT) {
         Some(Line::Key(BlockKey {
             block,
             key: key as u8,
@@ -243,8 +241,7 @@ fn purge(bytes: &[u8]) -> Option<Call>
     ensures { Reads result (λ c. SoundCall c × (verb_of c ≡ Verb.Purge)) call_fields bytes.now }
 {
     let letter = lone(bytes)?;
-    let source = SourceName::of_letter(letter)?;
-    Some(Call::Purge { source })
+    SourceName::of_letter(letter).map(|source| Call::Purge { source })
 }
 
 fn call(verb: Verb, bytes: &[u8]) -> Option<Call>
@@ -260,10 +257,7 @@ fn call(verb: Verb, bytes: &[u8]) -> Option<Call>
             Some(Call::LoadAccess { register, value })
         }
         Verb::LoadMode => load_mode(bytes),
-        Verb::SetPrefix => {
-            let prefix = number(bytes)?;
-            Some(Call::SetPrefix { prefix })
-        }
+        Verb::SetPrefix => number(bytes).map(|prefix| Call::SetPrefix { prefix }),
         Verb::Translate => translate(bytes),
         Verb::Put => {
             let (address, value) = two_numbers(bytes)?;
@@ -280,9 +274,6 @@ pub(crate) fn line_of(kind: Kind, bytes: &[u8]) -> Option<Line>
     match kind {
         Kind::Doubleword => doubleword(bytes),
         Kind::Key => block_key(bytes),
-        Kind::Call(verb) => {
-            let made = call(verb, bytes)?;
-            Some(Line::Call(made))
-        }
+        Kind::Call(verb) => call(verb, bytes).map(Line::Call),
     }
 }

@@ -39,7 +39,8 @@ impl Places<'_> {
         }
     }
 
-    // Puts a line into the first place of its sort that is free.
+    // Puts a line into the first place of its sort that is free. The places are lent, so that no
+    // `push` can make one.
     pub(crate) fn put(&mut self, line: Line, found: Counts)
         requires { Full (lent self.old) found (kind_of line) → ⊥ }
         ensures put { PutIn line found self.old self.new }

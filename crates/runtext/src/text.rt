@@ -23,6 +23,7 @@ fn digit_of(d: u8) -> u8
 // contract does not say when, while a text that has room is written.
 #[derive(Drop)]
 pub(crate) struct Text<'a> {
+    // Lent, and no `Vec`: a text is laid into a place of fixed size, and this crate has no heap.
     buffer: &'a mut [u8],
     length: usize,
 }

@@ -8,8 +8,10 @@ ghost use Rattle.storage.specs.Views.{after_put, put_result};
 
 use crate::storage::{BLOCK_BYTES, Storage};
 use arch::condition::Condition;
-use arch::record::{BlockKey, Word};
+use arch::record::{BlockKey, KEY_LIMIT, Word};
 
+// Lent records of doublewords and of block keys. Of several for one address, or for one block, the
+// first counts.
 #[derive(Drop)]
 pub struct Sparse<'w, 'k> {
     pub words: &'w mut [Word],
@@ -39,7 +41,7 @@ fn listed_key(keys: &[BlockKey], block: u64) -> Option<u8>
 fn first_key(keys: &[BlockKey], block: u64) -> Option<u8>
     ensures { result ≡ key_at keys.now block }
 {
-    listed_key(keys, block).filter(|key| *key < 32)
+    listed_key(keys, block).filter(|key| *key < KEY_LIMIT)
 }
 
 // Sets the value of the first record of `address`, and changes no other record.

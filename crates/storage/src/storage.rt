@@ -7,6 +7,8 @@ use arch::condition::Condition;
 // The bytes of a block, which has one key.
 pub const BLOCK_BYTES: u64 = 4096;
 
+// Doublewords by their addresses in bytes, and block keys of five bits by the numbers of blocks.
+// What is absent is told by None, and at a put by `Addressing`.
 pub trait Storage {
     // Which doublewords are present, their values, and the key of each block that has one.
     ghost view: { Self → View };
