@@ -16,7 +16,7 @@ full_entry : (o : Option Entry) (k a : Words) → matches_entry k o ≡ true →
 full_entry None k a e f = absurd cc
 full_entry (Some o) k a e f = let key = same_words o.key k e in let answer : o.answer ≡ a = cc in ap (λ p. Some p) (λ i. record { key = key i; answer = answer i })
 
-full : (r : Row) (k a : Words) → matches k r ≡ true → answer_of r ≡ Some a → r ≡ full_row k a
+pub full : (r : Row) (k a : Words) → matches k r ≡ true → answer_of r ≡ Some a → r ≡ full_row k a
 full r k a e f = λ i. record { entry = full_entry r.entry k a e f i }
 
 row_found : (r : Row) (k a : Words) → row_answer r k ≡ Some a → r ≡ full_row k a

@@ -1,5 +1,5 @@
 -- Rows of words, and what is found in them.
-use Rattle.std.specs.Prelude.{ℕ, ◌%◌, Bool, false, cond, ◌&&◌, List, Some, None, Option, ◌==◌, bit_xor, find}
+use Rattle.std.specs.Prelude.{◌≡◌, ◌≢◌, ℕ, ◌<◌, ◌%◌, Bool, false, cond, ◌&&◌, List, length, slice_index_or, Some, None, Option, ◌==◌, bit_xor, find}
 use Rattle.std.specs.List.{Contains}
 use Rattle.std.specs.Option.{option_map, option_and_then}
 use Rattle.lookup.specs.declared.words.Words.{Words}
@@ -31,6 +31,13 @@ row_answer r k = cond (matches k r) (answer_of r) None
 -- the answer of the first row that matches, from row 0 up
 abbrev pub first_answer : List Row → Words → Option Words
 first_answer rows k = option_and_then answer_of (find (matches k) rows)
+
+-- the first row with an answer for a key, and that answer: no row before it has one for this key
+pub record FirstRow (rows : List Row) (k a : Words) : Type 0 where
+  pub row : ℕ
+  pub within : row < length rows
+  pub pair : slice_index_or rows row empty_row ≡ full_row k a
+  pub none_before : (i : ℕ) (b : Words) → i < row → slice_index_or rows i empty_row ≢ full_row k b
 
 -- some row holds this pair of words
 abbrev pub HasPair : List Row → Words → Words → Type 0

@@ -1,5 +1,5 @@
 // The table of a direct-mapped lookaside: 64 rows, one for each key's words to fall on.
-ghost use Rattle.std.specs.Prelude.{◌≡◌, replicate, slice_index_or, slice_set};
+ghost use Rattle.std.specs.Prelude.{◌≡◌, ◌<◌, replicate, slice_index_or, slice_set};
 ghost use Rattle.lookaside.specs.Found.{at_found};
 ghost use Rattle.lookaside.specs.Rows.{direct_row, direct_rows, empty_row, full_row, row_answer, HasPair};
 
@@ -21,7 +21,8 @@ pub type DirectMapped<B> = Lookaside<DirectMappedTable, B>;
 
 // The row of a key: the last six bits of the exclusive-or of its words.
 fn row_of(key: Words) -> usize
-    ensures { result ≡ direct_row key }
+    ensures row { result ≡ direct_row key }
+    ensures below { result < direct_rows }
 {
     (key.first ^ key.second) as usize % ROWS
 }
@@ -48,7 +49,11 @@ impl Table for DirectMappedTable {
 
     ghost found_is_in_a_row = { λ t k a f. at_found t.rows (direct_row k) k a f };
 
-    fn find(&self, key: Words) -> Option<Words> {
+    fn find(&self, key: Words) -> Option<Words>
+        ensures result { result ≡ row_answer
+            (slice_index_or self.now.rows (direct_row key) empty_row) key }
+        ensures row { direct_row key < direct_rows }
+    {
         let row = self.rows[row_of(key)];
         if row.holds(key) { row.answer() } else { None }
     }

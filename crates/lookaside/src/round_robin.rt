@@ -1,7 +1,7 @@
 // The table of a round-robin lookaside: 32 rows, filled in turn.
-ghost use Rattle.std.specs.Prelude.{◌≡◌, ◌+◌, ◌%◌, ◌<◌, length, replicate, slice_set};
+ghost use Rattle.std.specs.Prelude.{◌≡◌, ◌+◌, ◌%◌, ◌<◌, length, replicate, slice_set, Some, None};
 ghost use Rattle.lookaside.specs.Found.{first_found};
-ghost use Rattle.lookaside.specs.Rows.{empty_row, first_answer, full_row, round_robin_rows, HasPair};
+ghost use Rattle.lookaside.specs.Rows.{empty_row, first_answer, full_row, round_robin_rows, FirstRow, HasPair};
 
 use crate::lookaside::Lookaside;
 use crate::row::Row;
@@ -46,7 +46,12 @@ impl Table for RoundRobinTable {
 
     ghost found_is_in_a_row = { λ t k a f. first_found t.rows k a f };
 
-    fn find(&self, key: Words) -> Option<Words> {
+    // The first row that holds an answer for the key, from row 0 up, gives it.
+    fn find(&self, key: Words) -> Option<Words>
+        ensures result { result ≡ first_answer self.now.rows key }
+        ensures first { (a : Words) → result ≡ Some a → FirstRow self.now.rows key a }
+        ensures no_row { result ≡ None → (a : Words) → HasPair self.now.rows key a → ⊥ }
+    {
         self.rows
             .iter()
             .find(|row| row.holds(key))

@@ -1,5 +1,5 @@
 // A table of rows, by what it finds and what its rows hold.
-ghost use Rattle.std.specs.Prelude.{◌≡◌, ◌⊎◌, Some, Option};
+ghost use Rattle.std.specs.Prelude.{◌≡◌, ◌⊎◌, Some, None, Option};
 ghost use Rattle.lookup.specs.declared.words.Words.{Words};
 
 use lookup::words::Words;
@@ -25,12 +25,14 @@ pub trait Table {
     fn note(&mut self, key: Words, answer: Words)
         ensures rows { after_note self.old key answer self.new }
         ensures pairs { (k a : Words) → has_pair self.new k a
-            → has_pair self.old k a ⊎ ((k ≡ key) × (a ≡ answer)) };
+            → has_pair self.old k a ⊎ ((k ≡ key) × (a ≡ answer)) }
+        ensures found { finds self.old key ≡ None → finds self.new key ≡ Some answer };
 
     // Empties every row.
     fn clear(&mut self)
         ensures rows { after_clear self.new }
-        ensures none { (k a : Words) → has_pair self.new k a → ⊥ };
+        ensures none { (k a : Words) → has_pair self.new k a → ⊥ }
+        ensures nothing_found { (k : Words) → finds self.new k ≡ None };
 
     // A pair found is in a row.
     ghost found_is_in_a_row: { (t : Self) (k a : Words) → finds t k ≡ Some a → has_pair t k a };

@@ -1,5 +1,5 @@
 -- Prefixing: the 8,192 bytes at 0, and their keys, are exchanged with those at the prefix.
-use Rattle.std.specs.Prelude.{ℕ, ◌+◌, ◌-◌, ◌%◌, ◌^◌, Bool, cond, ◌&&◌, ◌==◌, nat_le, nat_lt}
+use Rattle.std.specs.Prelude.{◌≡◌, ℕ, ◌+◌, ◌-◌, ◌%◌, ◌^◌, Bool, cond, ◌&&◌, ◌==◌, nat_le, nat_lt}
 use Rattle.storage.specs.Views.{View, block_of}
 
 -- the bytes that are exchanged
@@ -23,3 +23,9 @@ absolute_block p b = exchange (block_of area_bytes) (block_of p) b
 
 abbrev pub prefixed : ℕ → View → View
 prefixed p v = record { word = λ a. v.word (absolute p a); key = λ b. v.key (absolute_block p b) }
+
+-- exchanged twice, an address is itself again, and blocks stay whole: the block of an absolute address is
+-- the absolute block
+pub record Exchanges (p : ℕ) : Type 0 where
+  pub twice : (a : ℕ) → absolute p (absolute p a) ≡ a
+  pub whole : (a : ℕ) → absolute_block p (block_of a) ≡ block_of (absolute p a)

@@ -3,7 +3,7 @@
 ghost use Rattle.std.specs.Prelude.{◌≡◌, ◌+◌, ◌/◌, ◌^◌, ◌<◌, true, false, if◌then◌else◌, None, Ok, Err};
 ghost use Rattle.arch.specs.declared.condition.Condition.TheVariants.{BadPrefix};
 ghost use Rattle.storage.specs.Keyed.{lawful_even, prefixed_keyed};
-ghost use Rattle.storage.specs.Prefixes.{absolute, absolute_block, exchange, lawful_prefix, prefixed};
+ghost use Rattle.storage.specs.Prefixes.{absolute, absolute_block, exchange, lawful_prefix, prefixed, Exchanges};
 ghost use Rattle.storage.specs.Views.{after_put, put_result};
 
 use crate::storage::{BLOCK_BYTES, Storage};
@@ -42,6 +42,7 @@ impl Prefix {
     pub fn get(self) -> u64
         ensures number { result ≡ self }
         ensures lawful { lawful_prefix self ≡ true }
+        ensures exchanges { Exchanges self }
     {
         self.0
     }
