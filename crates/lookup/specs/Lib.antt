@@ -1,9 +1,13 @@
 pub mod Access
+pub mod AccessLayouts
 pub mod Checks
 pub mod Laws
+pub mod Layouts
 pub mod Lookups
 pub mod Orders
+pub mod PageLayouts
 pub mod Pages
 pub mod Sources
 pub mod Spelling
 pub mod Worked
+pub mod Zeros

@@ -1,5 +1,6 @@
 pub mod Accesses
 pub mod Alike
+pub mod Cases
 pub mod Few
 pub mod Fresh
 pub mod InOrder

@@ -7,3 +7,4 @@ pub mod Registers
 pub mod Scene
 pub mod Translation
 pub mod Turns
+pub mod Worked

@@ -12,6 +12,7 @@ mod sources;
 mod space;
 mod state;
 mod translate;
+pub mod worked;
 
 pub use counted::Counted;
 pub use mode::{AddressSize, Mode};
