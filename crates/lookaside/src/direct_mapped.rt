@@ -1,5 +1,5 @@
 // The table of a direct-mapped lookaside: 64 rows, one for each key's words to fall on.
-ghost use Rattle.std.specs.Prelude.{◌≡◌, ◌<◌, replicate, slice_index_or, slice_set};
+ghost use Rattle.std.specs.Prelude.{◌≡◌, ◌≢◌, ◌<◌, replicate, slice_index_or, slice_set, Some, None};
 ghost use Rattle.lookaside.specs.Found.{at_found};
 ghost use Rattle.lookaside.specs.Rows.{direct_row, direct_rows, empty_row, full_row, row_answer, HasPair};
 
@@ -53,6 +53,10 @@ impl Table for DirectMappedTable {
         ensures result { result ≡ row_answer
             (slice_index_or self.now.rows (direct_row key) empty_row) key }
         ensures row { direct_row key < direct_rows }
+        ensures held { (a : Words) → result ≡ Some a
+            → slice_index_or self.now.rows (direct_row key) empty_row ≡ full_row key a }
+        ensures not_held { result ≡ None → (a : Words)
+            → slice_index_or self.now.rows (direct_row key) empty_row ≢ full_row key a }
     {
         let row = self.rows[row_of(key)];
         if row.holds(key) { row.answer() } else { None }

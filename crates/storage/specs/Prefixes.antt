@@ -24,8 +24,8 @@ absolute_block p b = exchange (block_of area_bytes) (block_of p) b
 abbrev pub prefixed : ℕ → View → View
 prefixed p v = record { word = λ a. v.word (absolute p a); key = λ b. v.key (absolute_block p b) }
 
--- exchanged twice, an address is itself again, and blocks stay whole: the block of an absolute address is
--- the absolute block
+-- exchanged twice an address is itself again, and blocks stay whole: the block of an absolute
+-- address is the absolute block
 pub record Exchanges (p : ℕ) : Type 0 where
   pub twice : (a : ℕ) → absolute p (absolute p a) ≡ a
   pub whole : (a : ℕ) → absolute_block p (block_of a) ≡ block_of (absolute p a)
