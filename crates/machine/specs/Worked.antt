@@ -23,7 +23,9 @@ with_bits n v = record zero_registers { size = Bits64; control = slice_set (repl
 -- a translation by an access register, over bare sources and a storage of zeros but for these doublewords, each block
 -- with this storage key
 abbrev pub over_zeros : List (ℕ × ℕ) → ℕ → Registers → Access → ℕ → ℕ → Traced ℕ
-over_zeros ws key r access register address = translation r (access_fresh (zeros_but ws)) (page_fresh (zeros_but ws)) (record { word = zeros_but ws; key = λ b. Some key }) access (record { register = register; address = address }) 12
+over_zeros ws key r access register address =
+    translation r (access_fresh (zeros_but ws)) (page_fresh (zeros_but ws))
+      (record { word = zeros_but ws; key = λ b. Some key }) access (record { register = register; address = address }) 12
 
 -- with DAT off an address is real once it is cut to its size
 abbrev pub sized : AddressSize → ℕ → Traced ℕ
@@ -100,9 +102,15 @@ pub record ControlRegisters : Type 0 where
   pub control_8_bit_47 : by_alet ((0x20, only 7 + only 31) ∷ []) 8 (only 47) 2 ≡ completed 0 (reads_from 0x10)
   pub control_8_bit_48 : by_alet ((0x20, only 7) ∷ []) 8 (only 48) 2 ≡ completed 0 (reads_from 0x10)
 
--- a fetch at 0 with the primary element 10000, the secondary 70000 and the home 130000; access register 0 holds 1
+-- control registers with the primary element 10000, the secondary 70000 and the home 130000
+abbrev pub elements : List ℕ
+elements = slice_set (slice_set (slice_set (replicate 16 0) 1 0x10000) 7 0x70000) 13 0x130000
+
+-- a fetch at 0 by an access register, of which 0 holds 1, and 1 this token
 abbrev pub in_mode : Mode → ℕ → ℕ → Traced ℕ
-in_mode mode register alet = over_zeros [] 0 (record zero_registers { mode = mode; control = slice_set (slice_set (slice_set (replicate 16 0) 1 0x10000) 7 0x70000) 13 0x130000; access = slice_set (slice_set (replicate 16 0) 0 1) 1 alet }) Fetch register 0
+in_mode mode register alet =
+    over_zeros [] 0 (record zero_registers { mode = mode; control = elements; access = 1 ∷ alet ∷ replicate 14 0 })
+      Fetch register 0
 
 -- the spaces by mode and by token
 pub record Spaces : Type 0 where
