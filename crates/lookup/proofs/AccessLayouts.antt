@@ -55,6 +55,7 @@ entry_layout =
       bit_8_equal = refl;
       bit_15 = refl;
       bit_15_equal = refl;
+      bit_15_private = refl;
       bit_16 = refl;
       bit_16_equal = refl;
       bit_31 = refl;

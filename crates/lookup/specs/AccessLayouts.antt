@@ -96,7 +96,8 @@ pub record EntryLayout : Type 0 where
   pub bit_8_equal : entered (only 8) 0x00800002 1 ≡ completed (element 0) (reads_of 0x20 0)
   pub bit_15 : entered (only 15) 2 1 ≡ recognized AleSequence (0x1010 ∷ 0x20 ∷ [])
   pub bit_15_equal : entered (only 15) 0x00010002 1 ≡ completed (element 0) (reads_of 0x20 0)
-  -- bits 16-31 are the authorization index of the entry
+  -- bits 16-31 are the authorization index of the entry; 15 is not of it
+  pub bit_15_private : entered (only 7 + only 15) 0x00010002 0 ≡ completed (element 0) (reads_of 0x20 0)
   pub bit_16 : entered (only 7 + only 16) 2 0 ≡ recognized ExtendedAuthority unauthorized
   pub bit_16_equal : entered (only 7 + only 16) 2 0x8000 ≡ completed (element 0) (reads_of 0x20 0)
   pub bit_31 : entered (only 7 + only 31) 2 0 ≡ recognized ExtendedAuthority unauthorized

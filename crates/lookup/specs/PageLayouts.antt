@@ -161,6 +161,10 @@ pub record PageLayout : Type 0 where
   pub bit_56 : by_page_entry (only 56) ≡ completed (frame 0) (8 ∷ 0x18 ∷ [])
   pub bit_63 : by_page_entry (only 63) ≡ completed (frame 0) (8 ∷ 0x18 ∷ [])
 
+-- tables of all five kinds, with an entry in each
+abbrev pub five_tables : List (ℕ × ℕ)
+five_tables = (0x10008, 0x2000c) ∷ (0x20010, 0x30008) ∷ (0x30018, 0x40004) ∷ (0x40020, 0x50000) ∷ (0x50028, 0x60000) ∷ []
+
 -- The indexes in a virtual address. Each table is at 0 and of length 3, its longest, and its storage is empty, so that
 -- the first read is the last.
 pub record Indexes : Type 0 where
@@ -192,7 +196,7 @@ pub record Indexes : Type 0 where
   pub page_bit_51 : through [] 0 (only 51) ≡ completed (frame 0) (0 ∷ 8 ∷ [])
   pub page_bit_52 : through [] 0 (only 52) ≡ completed (frame 0) (0 ∷ 0 ∷ [])
   -- all five, 1 to 5, from a region-first table at 10000 to frame 60
-  pub all_five : through ((0x10008, 0x2000c) ∷ (0x20010, 0x30008) ∷ (0x30018, 0x40004) ∷ (0x40020, 0x50000) ∷ (0x50028, 0x60000) ∷ []) 0x1000c (only 10 + 2 * only 21 + 3 * only 32 + 4 * only 43 + 5 * only 51) ≡ completed (frame 0x60) (0x10008 ∷ 0x20010 ∷ 0x30018 ∷ 0x40020 ∷ 0x50028 ∷ [])
+  pub all_five : through five_tables 0x1000c (only 10 + 2 * only 21 + 3 * only 32 + 4 * only 43 + 5 * only 51) ≡ completed (frame 0x60) (0x10008 ∷ 0x20010 ∷ 0x30018 ∷ 0x40020 ∷ 0x50028 ∷ [])
 
 -- A table at 0 that an element designates, the last bit of its index counting so much, with each length. Its storage
 -- is empty, so that the first read is the last.

@@ -1,7 +1,7 @@
 -- The worked cases of translation and prefixing, by computing them.
 use Rattle.std.proofs.Common.{refl}
 use Rattle.lookup.specs.Lookups.{access_fresh, page_fresh}
-use Rattle.machine.specs.Worked.{AddressSizes, LowAddresses, ControlRegisters, Spaces, KeyProtection, RealAddresses, PrefixExchange}
+use Rattle.machine.specs.Worked.{AddressSizes, LowAddresses, ControlRegisters, Spaces, KeyProtection, Reaches, RealAddresses, PrefixExchange}
 
 pub address_sizes : AddressSizes
 unfolding access_fresh page_fresh
@@ -85,12 +85,28 @@ key_protection =
       match_1_store = refl;
       mismatch_1_fetch = refl;
       mismatch_1_store = refl;
+      beside_0_fetch = refl;
+      beside_1_fetch = refl;
       zero_fetch = refl;
       zero_store = refl;
       highest_match = refl;
       highest_mismatch = refl;
       lowest_match = refl;
       lowest_mismatch = refl;
+    }
+
+pub reaches : Reaches
+unfolding access_fresh page_fresh
+reaches =
+    record {
+      before_block = refl;
+      first_of_block = refl;
+      last_of_block = refl;
+      past_block = refl;
+      before_doubleword = refl;
+      first_of_doubleword = refl;
+      last_of_doubleword = refl;
+      past_doubleword = refl;
     }
 
 pub real_addresses : RealAddresses
@@ -107,6 +123,8 @@ real_addresses =
       segment_fetch = refl;
       page_store = refl;
       page_fetch = refl;
+      fetch_only_store = refl;
+      fetch_only_fetch = refl;
     }
 
 pub prefix_exchange : PrefixExchange

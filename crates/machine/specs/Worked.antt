@@ -1,10 +1,10 @@
 -- Worked cases of a translation and of prefixing: each bound from both sides. What comes out is what the z/Architecture
 -- Principles of Operation say.
-use Rattle.std.specs.Prelude.{◌≡◌, ℕ, ◌+◌, true, false, List, [], ◌∷◌, Some, replicate, slice_set}
+use Rattle.std.specs.Prelude.{◌≡◌, ℕ, ◌+◌, ◌==◌, cond, None, true, false, List, [], ◌∷◌, Some, replicate, slice_set}
 use Rattle.arch.specs.Walks.{Traced}
 use Rattle.arch.specs.declared.call.Access.{Access}
 use Rattle.arch.specs.declared.call.Access.TheVariants.{Fetch, Store}
-use Rattle.arch.specs.declared.condition.Condition.TheVariants.{AletSpecification, AleSequence, LowAddress, Page, Key}
+use Rattle.arch.specs.declared.condition.Condition.TheVariants.{Addressing, AletSpecification, AleSequence, LowAddress, AccessList, Page, Key}
 use Rattle.storage.specs.Prefixes.{lawful_prefix, prefixed}
 use Rattle.storage.specs.Views.{View}
 use Rattle.lookup.specs.Lookups.{access_fresh, page_fresh}
@@ -23,7 +23,9 @@ with_bits n v = record zero_registers { size = Bits64; control = slice_set (repl
 -- a translation by an access register, over bare sources and a storage of zeros but for these doublewords, each block
 -- with this storage key
 abbrev pub over_zeros : List (ℕ × ℕ) → ℕ → Registers → Access → ℕ → ℕ → Traced ℕ
-over_zeros ws key r access register address = translation r (access_fresh (zeros_but ws)) (page_fresh (zeros_but ws)) (record { word = zeros_but ws; key = λ b. Some key }) access (record { register = register; address = address }) 12
+over_zeros ws key r access register address =
+    translation r (access_fresh (zeros_but ws)) (page_fresh (zeros_but ws))
+    (record { word = zeros_but ws; key = λ b. Some key }) access (record { register = register; address = address }) 12
 
 -- with DAT off an address is real once it is cut to its size
 abbrev pub sized : AddressSize → ℕ → Traced ℕ
@@ -100,9 +102,15 @@ pub record ControlRegisters : Type 0 where
   pub control_8_bit_47 : by_alet ((0x20, only 7 + only 31) ∷ []) 8 (only 47) 2 ≡ completed 0 (reads_from 0x10)
   pub control_8_bit_48 : by_alet ((0x20, only 7) ∷ []) 8 (only 48) 2 ≡ completed 0 (reads_from 0x10)
 
--- a fetch at 0 with the primary element 10000, the secondary 70000 and the home 130000; access register 0 holds 1
+-- control registers with the primary element 10000, the secondary 70000 and the home 130000
+abbrev pub elements : List ℕ
+elements = slice_set (slice_set (slice_set (replicate 16 0) 1 0x10000) 7 0x70000) 13 0x130000
+
+-- a fetch at 0 by an access register, of which 0 holds 1, and 1 this token
 abbrev pub in_mode : Mode → ℕ → ℕ → Traced ℕ
-in_mode mode register alet = over_zeros [] 0 (record zero_registers { mode = mode; control = slice_set (slice_set (slice_set (replicate 16 0) 1 0x10000) 7 0x70000) 13 0x130000; access = slice_set (slice_set (replicate 16 0) 0 1) 1 alet }) Fetch register 0
+in_mode mode register alet =
+    over_zeros [] 0 (record zero_registers { mode = mode; control = elements; access = 1 ∷ alet ∷ replicate 14 0 })
+    Fetch register 0
 
 -- the spaces by mode and by token
 pub record Spaces : Type 0 where
@@ -135,6 +143,9 @@ pub record KeyProtection : Type 0 where
   -- 1, mismatch: neither
   pub mismatch_1_fetch : keyed 0x5 0x0d Fetch ≡ recognized Key []
   pub mismatch_1_store : keyed 0x5 0x0d Store ≡ recognized Key []
+  -- the bit beside the fetch-protection bit, the last of the access control
+  pub beside_0_fetch : keyed 0x5 0x0e Fetch ≡ completed 0x2000 []
+  pub beside_1_fetch : keyed 0x5 0x0f Fetch ≡ recognized Key []
   -- access key 0 matches
   pub zero_fetch : keyed 0x0 0x1f Fetch ≡ completed 0x2000 []
   pub zero_store : keyed 0x0 0x1f Store ≡ completed 0x2000 []
@@ -144,9 +155,37 @@ pub record KeyProtection : Type 0 where
   pub lowest_match : keyed 0x1 0x03 Fetch ≡ completed 0x2000 []
   pub lowest_mismatch : keyed 0x1 0x01 Fetch ≡ recognized Key []
 
+-- a fetch with access key 5, where block 2 has storage key d, each other block b, and the doubleword at 5010 alone is
+-- absent
+abbrev pub reached_at : ℕ → Traced ℕ
+reached_at address =
+    translation (record (with_bits 0 0) { key = 5 }) (access_fresh (zeros_but [])) (page_fresh (zeros_but []))
+    (record { word = λ a. cond (a == 0x5010) None (Some 0); key = λ b. Some (cond (b == 2) 0xd 0xb) })
+    Fetch (record { register = 0; address = address }) 12
+
+-- the block and the doubleword that an address lies in
+pub record Reaches : Type 0 where
+  -- a storage key is associated with each block of 4K bytes
+  pub before_block : reached_at 0x1fff ≡ completed 0x1fff []
+  pub first_of_block : reached_at 0x2000 ≡ recognized Key []
+  pub last_of_block : reached_at 0x2fff ≡ recognized Key []
+  pub past_block : reached_at 0x3000 ≡ completed 0x3000 []
+  -- a doubleword is 8 bytes on an 8-byte boundary
+  pub before_doubleword : reached_at 0x500f ≡ completed 0x500f []
+  pub first_of_doubleword : reached_at 0x5010 ≡ recognized Addressing []
+  pub last_of_doubleword : reached_at 0x5017 ≡ recognized Addressing []
+  pub past_doubleword : reached_at 0x5018 ≡ completed 0x5018 []
+
 -- an access in the primary space whose table is at 0
 abbrev pub primary_by : List (ℕ × ℕ) → Access → ℕ → Traced ℕ
 primary_by ws access address = over_zeros ws 0 (record (with_bits 1 0) { mode = Primary }) access 0 address
+
+-- an access at 103000 by access register 1, whose access-list entry has bit 6 one
+abbrev pub by_entry_6 : Access → Traced ℕ
+by_entry_6 access =
+    over_zeros ((0x20, only 6) ∷ []) 0
+    (record (with_bits 0 0) { mode = AccessRegister; access = slice_set (replicate 16 0) 1 2 })
+    access 1 0x103000
 
 -- The real address: the page-frame real address, bits 0-51, and the byte index, bits 52-63. And what protects a page.
 pub record RealAddresses : Type 0 where
@@ -162,6 +201,9 @@ pub record RealAddresses : Type 0 where
   pub segment_fetch : primary_by ((8, only 54) ∷ []) Fetch 0x103000 ≡ completed 0 (8 ∷ 0x18 ∷ [])
   pub page_store : primary_by ((0x18, only 54) ∷ []) Store 0x103000 ≡ recognized Page (8 ∷ 0x18 ∷ [])
   pub page_fetch : primary_by ((0x18, only 54) ∷ []) Fetch 0x103000 ≡ completed 0 (8 ∷ 0x18 ∷ [])
+  -- and so is access-list-controlled protection, by bit 6 of the access-list entry
+  pub fetch_only_store : by_entry_6 Store ≡ recognized AccessList (reads_from 0x10)
+  pub fetch_only_fetch : by_entry_6 Fetch ≡ completed 0 (reads_from 0x10)
 
 -- a view in which the doubleword at each address, and the key of each block, is its own number, beneath a prefix
 abbrev pub beneath : ℕ → View
@@ -202,5 +244,6 @@ pub record WorkedTranslations : Type 0 where
   pub control_registers : ControlRegisters
   pub spaces : Spaces
   pub key_protection : KeyProtection
+  pub reaches : Reaches
   pub real_addresses : RealAddresses
   pub prefix_exchange : PrefixExchange

@@ -5,8 +5,8 @@ ghost use Rattle.machine.specs.Worked.{WorkedTranslations};
 // How many parts of a translation have cases on either side of each bound; that each comes out is
 // what is proved.
 pub fn worked_translations() -> u8
-    ensures count { result ≡ 7 }
+    ensures count { result ≡ 8 }
     ensures hold { WorkedTranslations }
 {
-    7
+    8
 }
