@@ -33,7 +33,8 @@ impl Machine {
     }
 
     // The translation that an access makes. Refused before it, in this order: a number of no access
-    // register, an address that is no multiple of 8, too few places.
+    // register, an address that is no multiple of 8, too few places. (It has the clauses of
+    // `translate`, said of an access: its callers see nothing else of it.)
     fn accessed<S: Storage, A: Source<AccessRegister>, P: Source<Paging>>(
         &mut self,
         storage: &mut Prefixed<S>,

@@ -1,4 +1,5 @@
-// The modes of a machine, and its address sizes.
+// The modes of a machine, and its address sizes. Each has a table of its own from numbers: one for
+// both would be longer than the two.
 ghost use Rattle.std.specs.Prelude.{◌≡◌};
 ghost use Rattle.machine.specs.Registers.{named, mode_of, size_of};
 

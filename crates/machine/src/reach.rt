@@ -1,4 +1,5 @@
-// From an address to the doubleword that it reaches.
+// From an address to the doubleword that it reaches. Numbers of a format stand where its bits are
+// named; each step says again what it gives and asks, since the step before it sees nothing else.
 ghost use Rattle.std.specs.Prelude.{◌≡◌, ◌+◌, ◌<◌, ◌≤◌, [], length, Some};
 ghost use Rattle.arch.specs.Walks.{Gives};
 ghost use Rattle.lookup.specs.Lookups.{page_asks};

@@ -1,4 +1,5 @@
-// From the mode and an access register to an address space.
+// From the mode and an access register to an address space. Each step has the same clauses, of what
+// it gives and of what it asks the source: the step before it sees nothing else of it.
 ghost use Rattle.std.specs.Prelude.{◌≡◌, ◌+◌, ◌<◌, ◌≤◌, false, length, Some};
 ghost use Rattle.arch.specs.Walks.{Gives};
 ghost use Rattle.lookup.specs.Lookups.{access_asks};

@@ -58,7 +58,8 @@ impl Machine {
         Ok(())
     }
 
-    // Puts a doubleword at a real address, without protection.
+    // Puts a doubleword at a real address, without protection. It is said both of what lies beneath
+    // and of what a fetch through the prefix sees next.
     pub fn put<S: Storage>(
         &mut self,
         storage: &mut Prefixed<S>,

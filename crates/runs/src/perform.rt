@@ -49,7 +49,8 @@ fn line<S: Storage, A: Source<AccessRegister>, P: Source<Paging>>(
     }
 }
 
-// Makes a call, with places enough for its list.
+// Makes a call, with places enough for its list. (Each call makes the list that it lends: a function
+// for both would have to hand it in and out.)
 fn perform<S: Storage, A: Source<AccessRegister>, P: Source<Paging>>(
     machine: &mut Machine,
     storage: &mut Prefixed<S>,
