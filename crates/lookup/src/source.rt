@@ -9,7 +9,7 @@ use arch::condition::Condition;
 use storage::storage::Storage;
 
 // What answers lookups of one kind, over a storage that it is lent for each. An ask needs room in
-// its trace, which has twelve places, for as many addresses as the kind reads at most.
+// its trace for as many addresses as the kind reads at most.
 pub trait Source<K: Kind> {
     // For each key the answer that it would give without storage, or none.
     ghost shows: { Self → K.Key → Option K.Answer };

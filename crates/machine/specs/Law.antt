@@ -95,7 +95,7 @@ pub record ShowFreshOnce (moments : Past) (shown : Shown) : Type 0 where
 abbrev pub Steady : (ℕ → Option ℕ) → List (ℕ → Option ℕ) → List ℕ → Type 0
 Steady now moments list = AllByRecursion (λ w. Agree now w list) moments
 
--- what the lookups of these keys would fetch has held one value since the latest purge of their sources
+-- what the lookups of these keys would list has held one value since the latest purge of their sources
 pub record AreUnchanged (now : ℕ → Option ℕ) (moments : Past) (asks_access : AccessKey → Type 0) (asks_page : PageKey → Type 0) : Type 0 where
   pub access : (k : AccessKey) → asks_access k → Steady now moments.access (access_fresh now k).trace
   pub page : (k : PageKey) → asks_page k → Steady now moments.page (page_fresh now k).trace
@@ -107,7 +107,7 @@ IsUnchanged c n past = AreUnchanged n.real.word (since n.real.word past) (λ k. 
 abbrev pub Unchanged : State → Request → Type 0
 Unchanged s c = AreUnchanged (seen_now s) (since (seen_now s) s.past) (λ k. (effect_of c (scene_at s bare)).access ≡ asked_for k) (λ k. (effect_of c (scene_at s bare)).page ≡ asked_for k)
 
--- an outcome but for the count of doublewords fetched
+-- an outcome but for the count of doublewords listed
 abbrev pub uncounted : {X : Type 0} → Counted X → Counted X
 uncounted x = record { result = x.result; count = 0 }
 
