@@ -1,5 +1,5 @@
-// What a run text is read from: readers that give one byte at a time, that a signal interrupts, that fail in mid-text,
-// and that have more than is wanted.
+// What a run text is read from: readers that give one byte at a time, that give one message, that a signal interrupts,
+// that fail in mid-text, and that have more than is wanted.
 use runtext::BYTES;
 use std::io;
 use std::io::{ErrorKind, Read};
@@ -16,6 +16,18 @@ impl Read for OneByOne<'_> {
     fn read(&mut self, buf: &mut [u8]) -> io::Result<usize> {
         let most = buf.len().min(1);
         self.0.read(&mut buf[..most])
+    }
+}
+
+// Gives its bytes as one message, and loses those that a read has no room for.
+#[derive(Drop)]
+struct Message<'a>(&'a [u8]);
+
+impl Read for Message<'_> {
+    fn read(&mut self, buf: &mut [u8]) -> io::Result<usize> {
+        let got = self.0.read(buf)?;
+        self.0 = b"";
+        Ok(got)
     }
 }
 
@@ -43,14 +55,15 @@ impl Read for Failing<'_> {
 
 fn reads<R: Read + Drop>(
     rt: &(impl Abort + AllocGlobal),
-    reader: R,
+    mut reader: R,
     limit: usize,
     expected: &[u8],
 ) -> Result<(), Fail> {
-    let Ok(text) = input::text(rt.alloc(), reader, limit) else {
+    let mut text = vec![in rt.alloc(); 0u8; limit]?;
+    let Ok(length) = input::text(&mut reader, &mut text) else {
         return Err(Fail::new("not read"));
     };
-    assert_eq!(rt; text.as_slice(), expected);
+    assert_eq!(rt; &text[..length], expected);
     Ok(())
 }
 
@@ -72,15 +85,23 @@ fn no_more_than_the_limit(rt: HostRuntime) -> Result<(), Fail> {
 }
 
 #[test]
+fn a_message_in_one_read(rt: HostRuntime) -> Result<(), Fail> {
+    let bytes = vec![in rt.alloc(); b'Z'; 70000]?;
+    reads(&rt, Message(&bytes[..6000]), BYTES + 1, &bytes[..6000])?;
+    reads(&rt, Message(&bytes), BYTES + 1, &bytes[..65537])
+}
+
+#[test]
 fn an_error_in_mid_text(rt: HostRuntime) -> Result<(), Fail> {
     let bytes = TEXT.as_bytes();
-    let reader = Failing {
+    let mut reader = Failing {
         bytes: &bytes[..6],
         error: ErrorKind::BrokenPipe,
         times: 1,
         rest: &bytes[6..],
     };
-    match input::text(rt.alloc(), reader, BYTES + 1) {
+    let mut text = vec![in rt.alloc(); 0u8; BYTES + 1]?;
+    match input::text(&mut reader, &mut text) {
         Ok(_) => Err(Fail::new("read past an error")),
         Err(error) => {
             assert_eq!(rt; error.kind(), ErrorKind::BrokenPipe);

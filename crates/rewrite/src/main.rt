@@ -13,7 +13,7 @@ use std::io::Write;
 fn rewrite(rt: &HostRuntime) -> anyhow::Result<()> {
     let heap = rt.alloc();
     // one byte more than the longest text: enough to know that it is too long
-    let text = input::text(heap, rt.stdin(), BYTES + 1)?;
+    let mut text = vec![in heap; 0u8; BYTES + 1]?;
     let mut copy = vec![in heap; 0u8; BYTES]?;
     // A listing lends its own as well: no crate below both has a heap.
     let mut words = vec![in heap; Word {
@@ -22,12 +22,13 @@ fn rewrite(rt: &HostRuntime) -> anyhow::Result<()> {
     }; WORDS]?;
     let mut keys = vec![in heap; BlockKey { block: 0, key: 0 }; KEYS]?;
     let mut calls = vec![in heap; Call::SetPrefix { prefix: 0 }; CALLS]?;
+    let length = input::text(&mut rt.stdin(), &mut text)?;
     let mut places = Places {
         words: &mut words,
         keys: &mut keys,
         calls: &mut calls,
     };
-    match reopened(&text, &mut places, &mut copy) {
+    match reopened(&text[..length], &mut places, &mut copy) {
         Ok(n) => {
             let mut out = rt.stdout();
             out.write_all(&copy[0..n])?;
