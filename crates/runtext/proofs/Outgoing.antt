@@ -1,6 +1,7 @@
 -- A run on its way out, line by line. Assumes nothing.
-use Rattle.std.proofs.Common.{◌≡◌, ℕ, ◌+◌, ◌<◌, ◌≤◌, List, [], ◌∷◌, ◌++◌, length, None, sym, refl, ap, ◌∙◌, subst, inl, inr, ⊎_elim, append_assoc, append-nil, arith}
+use Rattle.std.proofs.Common.{◌≡◌, ℕ, ◌+◌, ◌<◌, ◌≤◌, List, [], ◌∷◌, ◌++◌, length, None, sym, refl, ap, ◌∙◌, subst, inl, inr, ⊎_elim, append_assoc, append-nil, arith, length-append}
 use Rattle.arch.specs.declared.condition.Condition.{Condition}
+use Rattle.std.proofs.lemmas.Grind.{flat_map-append}
 use Rattle.std.specs.List.{flat_map}
 use Rattle.runtext.specs.declared.Counts.{Counts}
 use Rattle.runtext.specs.declared.line.Line.{Line}
@@ -17,6 +18,13 @@ use Rattle.runtext.proofs.Sofar.{Sofar, add, empty, start, further, bad_line, no
 pub spelt_none : (r : Run) → header ++ flat_map spell_line (lines r) ≡ spell r
 unfolding spell
 spelt_none r = refl
+
+-- the text of a run has the first line, and the bytes of its first lines and of the others
+pub spelt_parts : (r : Run) (past left : List Line) → past ++ left ≡ lines r → length (spell r) ≡ 6 + (length (flat_map spell_line past) + length (flat_map spell_line left))
+unfolding spell
+spelt_parts r past left e =
+    let whole = ap (λ ls. length (header ++ flat_map spell_line ls)) e in
+    omega (arith, whole, ap length (flat_map-append spell_line past left), length-append (flat_map spell_line past) (flat_map spell_line left))
 
 -- the first field of a line
 field_is : (l : Line) (x : List ℕ) → first_field (spell_line l ++ x) ≡ letter (kind_of l) ∷ []

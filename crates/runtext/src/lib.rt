@@ -22,6 +22,7 @@ pub mod places;
 mod progress;
 pub mod run;
 mod scan;
+mod size;
 mod text;
 pub mod trip;
 mod writing;

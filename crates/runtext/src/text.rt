@@ -1,5 +1,5 @@
 // A text on its way out, one byte after another.
-ghost use Rattle.std.specs.Prelude.{◌≡◌, ◌<◌, [], ◌∷◌, min, length};
+ghost use Rattle.std.specs.Prelude.{◌≡◌, ◌<◌, [], ◌∷◌, length};
 ghost use Rattle.runtext.specs.Lines.{two, call_fields, fields, spell_line};
 ghost use Rattle.runtext.specs.Numerals.{hexit, numeral};
 ghost use Rattle.runtext.specs.Runs.{HasRoom, spell};
@@ -18,7 +18,7 @@ fn digit_of(d: u8) -> u8
 }
 
 // A text so far: as many of its bytes as the buffer has room for, from the buffer's start, and how
-// many it has. Into a buffer with no room it is only counted.
+// many it has.
 // This is no `fmt::Write`, and no line is a `Display`: what a formatter writes may fail, and its
 // contract does not say when, while a text that has room is written.
 #[derive(Drop)]
@@ -118,19 +118,6 @@ impl Text<'_> {
             self.line(line);
         }
     }
-}
-
-// How many bytes the text of a run has, or `usize::MAX` where they are more.
-pub(crate) fn size(run: &Run<'_>) -> usize
-    ensures { result ≡ min (length (spell run.now)) usize.MAX }
-{
-    let mut none = [];
-    let mut text = Text {
-        buffer: &mut none,
-        length: 0,
-    };
-    text.run(run);
-    text.length
 }
 
 // Lays the text of a run at the start of a buffer, and says where it ends.

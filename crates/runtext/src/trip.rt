@@ -7,8 +7,9 @@ ghost use Rattle.runtext.specs.Writing.{RefusedIn, Reopened, Restored, Written};
 
 use crate::places::Places;
 use crate::run::Run;
+use crate::text::lay;
 use crate::writing::write_for;
-use crate::{Counts, NO_ROOM, Refusal, read, write};
+use crate::{Counts, NO_ROOM, Refusal, read};
 
 // Reads a text and writes its run out again into a buffer: the same bytes. Where the text is
 // refused or the buffer is shorter, nothing is altered.
@@ -25,7 +26,8 @@ pub fn reopened(text: &[u8], places: &mut Places<'_>, copy: &mut [u8]) -> Result
         return Err(NO_ROOM);
     }
     let found = read(text, places)?;
-    write(&places.run(found), copy)
+    // What was read is written as it stands: nothing of it is to be judged again.
+    Ok(lay(&places.run(found), copy))
 }
 
 // Writes a run out into a buffer and reads it from there again: the same run. Where its text is

@@ -1,13 +1,31 @@
 // A run on its way out: it is judged, and then its text is laid into a buffer.
-ghost use Rattle.std.specs.Prelude.{◌≡◌, length, IfOk, IfErr, OnErr, OnOk};
+ghost use Rattle.std.specs.Prelude.{◌≡◌, ◌≤◌, length, Decides, IfOk, IfErr, OnErr, OnOk};
 ghost use Rattle.runtext.specs.Runs.{HasRoom, Readable, byte_limit, spell};
 ghost use Rattle.runtext.specs.Verdicts.{BadLine, Only};
 ghost use Rattle.runtext.specs.Writing.{RefusedIn, Written};
 
+use crate::line::FIRST_LINE;
 use crate::progress::Progress;
 use crate::run::Run;
-use crate::text::{lay, size};
+use crate::size::line_size;
+use crate::text::lay;
 use crate::{BYTES, Counts, NO_LINES, NO_ROOM, Refusal};
+
+// Whether the text of a run has no more than so many bytes. A run may be of any length: what comes
+// after the first line that has more is not looked at.
+fn fits(run: &Run<'_>, most: usize) -> bool
+    requires { most ≤ byte_limit }
+    ensures { Decides result (HasRoom most run.now) }
+{
+    let mut size = FIRST_LINE.len();
+    for line in run.lines() {
+        if size > most {
+            return false;
+        }
+        size += line_size(line);
+    }
+    size <= most
+}
 
 // Whether a run has a text that a reader with these places accepts, where it is no longer than a
 // text may be.
@@ -44,7 +62,7 @@ pub(crate) fn write_for(run: &Run<'_>, places: Counts, buffer: &mut [u8]) -> Res
         (Readable places run.now → HasRoom (length buffer.old) run.now → ⊥) }
     ensures unaltered { OnErr result (buffer.new ≡ buffer.old) }
 {
-    if size(run) > BYTES.min(buffer.len()) {
+    if !fits(run, BYTES.min(buffer.len())) {
         return Err(NO_ROOM);
     }
     judge(run, places)?;
