@@ -2,7 +2,7 @@
 // walk.
 ghost use Rattle.std.specs.Prelude.{◌≡◌, ℕ, ◌+◌, ◌≤◌, List, length, Option};
 ghost use Rattle.arch.specs.Order.{Row, Ordered};
-ghost use Rattle.arch.specs.Walks.{Traced, Gives, SeesOnlyItsTrace};
+ghost use Rattle.arch.specs.Walks.{Walk, Traced, Gives, SeesOnlyItsTrace, over};
 ghost use Rattle.lookup.specs.declared.words.Words.{Words};
 
 use crate::trace::Trace;
@@ -20,6 +20,11 @@ pub trait Kind {
 
     // What its walk over the doublewords of a storage comes to, and the addresses that it asks for.
     ghost fresh: { (ℕ → Option ℕ) → Self.Key → Traced Self.Answer };
+
+    // The lookup as a tree of reads, and the limit that an address is listed below.
+    ghost tree: { Self.Key → Walk Self.Answer };
+
+    ghost limit: { ℕ };
 
     // Its conditions as a table, and what it finds where none applies.
     ghost conditions: { (ℕ → Option ℕ) → Self.Key → List Row };
@@ -61,6 +66,11 @@ pub trait Kind {
 
     fn read(words: Words) -> Self::Answer
         ensures { result ≡ answer_of words };
+
+    // Its walk is that over the tree. A read at the limit or past it comes to `Addressing` and is not
+    // listed, one of an absent doubleword comes to it and is.
+    ghost walks: { (word : ℕ → Option ℕ) (key : Self.Key)
+        → fresh word key ≡ over limit word (tree key) };
 
     // It sees no more of a storage than it lists.
     ghost sees_only_its_trace: { (key : Self.Key) → SeesOnlyItsTrace (λ word. fresh word key) };

@@ -1,9 +1,10 @@
 // The two kinds of lookup. Each impl spells the fields of its own key and answer: one for both
 // would need a trait for those fields that is as long.
-ghost use Rattle.lookup.specs.Access.{AccessFits};
+ghost use Rattle.lookup.specs.Access.{AccessFits, access_limit, access_walk};
 ghost use Rattle.lookup.specs.Orders.{access_conditions, access_finds, page_conditions, page_finds};
-ghost use Rattle.lookup.specs.Laws.{access_sees_only_its_trace, page_sees_only_its_trace};
+ghost use Rattle.lookup.specs.Laws.{access_sees_only_its_trace, access_walks, page_sees_only_its_trace, page_walks};
 ghost use Rattle.lookup.specs.Lookups.{access_fresh, page_fresh};
+ghost use Rattle.lookup.specs.Pages.{page_limit, page_walk};
 ghost use Rattle.lookup.specs.Spelling.{access_key_words, access_answer_words, access_answer_of, page_key_words, page_answer_words, page_answer_of, PageFits};
 ghost use Rattle.std.proofs.Common.{rules};
 
@@ -26,6 +27,10 @@ impl Kind for AccessRegister {
 
     ghost fresh = { access_fresh };
 
+    ghost tree = { access_walk };
+
+    ghost limit = { access_limit };
+
     ghost conditions = { access_conditions };
 
     ghost finds = { access_finds };
@@ -39,6 +44,8 @@ impl Kind for AccessRegister {
     ghost answer_words = { access_answer_words };
 
     ghost answer_of = { access_answer_of };
+
+    ghost walks = { access_walks };
 
     ghost sees_only_its_trace = { access_sees_only_its_trace };
 
@@ -86,6 +93,10 @@ impl Kind for Paging {
 
     ghost fresh = { page_fresh };
 
+    ghost tree = { page_walk };
+
+    ghost limit = { page_limit };
+
     ghost conditions = { page_conditions };
 
     ghost finds = { page_finds };
@@ -99,6 +110,8 @@ impl Kind for Paging {
     ghost answer_words = { page_answer_words };
 
     ghost answer_of = { page_answer_of };
+
+    ghost walks = { page_walks };
 
     ghost sees_only_its_trace = { page_sees_only_its_trace };
 
