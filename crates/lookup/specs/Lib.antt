@@ -3,6 +3,7 @@ pub mod AccessLayouts
 pub mod Checks
 pub mod Laws
 pub mod Layouts
+pub mod Listed
 pub mod Lookups
 pub mod Orders
 pub mod PageLayouts

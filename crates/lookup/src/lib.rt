@@ -6,6 +6,7 @@
 pub mod access;
 pub mod kind;
 pub mod kinds;
+pub mod listed;
 pub mod page;
 pub mod source;
 pub mod step;

@@ -15,6 +15,10 @@ pub trait Trace {
     fn note(&mut self, address: u64)
         requires { length (addresses self.old) < room }
         ensures { addresses self.new ≡ addresses self.old ++ (address ∷ []) };
+
+    // The addresses noted, in order, for a source that counts or looks at what is read beneath it.
+    fn noted(&self) -> &[u64]
+        ensures { result.now ≡ addresses self.now };
 }
 
 impl<const N: usize> Trace for ArrayVec<u64, N> {
@@ -24,6 +28,10 @@ impl<const N: usize> Trace for ArrayVec<u64, N> {
 
     fn note(&mut self, address: u64) {
         self.push(address);
+    }
+
+    fn noted(&self) -> &[u64] {
+        self.as_slice()
     }
 }
 
