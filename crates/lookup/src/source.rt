@@ -76,3 +76,32 @@ impl<K: Kind> Source<K> for TableWalk {
 
     fn purge(&mut self) {}
 }
+
+// A source that is lent is one: so two that lie apart, or one that several stacks share in turn, are
+// lent to whoever asks. An ask and a purge leave the same loan, and so the source that it is of is
+// afterwards what they made of it.
+impl<K: Kind, B: Source<K>> Source<K> for &mut B {
+    ghost shows = { λ s k. B.shows s.now k };
+
+    ghost holds = { λ s k a. B.holds s.now k a };
+
+    ghost after_ask = { λ s fresh k t. (t.ghost_name ≡ s.ghost_name)
+        × B.after_ask s.now fresh k t.now };
+
+    ghost after_purge = { λ s t. (t.ghost_name ≡ s.ghost_name) × B.after_purge s.now t.now };
+
+    ghost shown_is_held = { λ s k a e. B.shown_is_held s.now k a e };
+
+    fn ask<S: Storage, T: Trace>(
+        &mut self,
+        storage: &S,
+        key: K::Key,
+        trace: &mut T,
+    ) -> Result<K::Answer, Condition> {
+        (**self).ask(storage, key, trace)
+    }
+
+    fn purge(&mut self) {
+        (**self).purge()
+    }
+}
