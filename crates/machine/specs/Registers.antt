@@ -1,8 +1,9 @@
 -- The registers of a machine, and what sets them.
-use Rattle.std.specs.Prelude.{◌≡◌, ℕ, zero, suc, ◌^◌, ◌<◌, ◌≤◌, Bool, cond, not, ◌||◌, List, [], ◌∷◌, length, replicate, Some, None, Ok, Err, Option, Result, nat_eq, nat_lt, slice_index, slice_set}
+use Rattle.std.specs.Prelude.{◌≡◌, ℕ, zero, suc, ◌^◌, ◌<◌, ◌≤◌, Bool, true, cond, not, ◌||◌, List, [], ◌∷◌, length, replicate, Some, None, Ok, Err, Option, Result, nat_eq, nat_lt, slice_index, slice_set}
 use Rattle.std.specs.List.{list_any}
 use Rattle.arch.specs.declared.condition.Condition.{Condition}
 use Rattle.arch.specs.declared.condition.Condition.TheVariants.{BadNumber}
+use Rattle.storage.specs.Prefixes.{lawful_prefix}
 use Rattle.machine.specs.declared.mode.Mode.{Mode}
 use Rattle.machine.specs.declared.mode.Mode.TheVariants.{DatOff, Primary, AccessRegister, Secondary, Home}
 use Rattle.machine.specs.declared.mode.AddressSize.{AddressSize}
@@ -74,3 +75,8 @@ pub record IsInRange (key : ℕ) (control access : List ℕ) : Type 0 where
   pub controls : length control ≡ 16
   pub accesses : length access ≡ 16
   pub access_bits : AreAccessRegisters access
+
+-- the same of the registers as whoever holds a machine sees them, and of its prefix
+pub record AreInRange (r : Registers) : Type 0 where
+  pub ranges : IsInRange r.key r.control r.access
+  pub prefix_lawful : lawful_prefix r.prefix ≡ true

@@ -1,5 +1,6 @@
 // The register set.
 ghost use Rattle.std.specs.Prelude.{◌≡◌};
+ghost use Rattle.machine.specs.Registers.{AreInRange};
 
 use crate::mode::{AddressSize, Mode};
 use std::marker::Model;
@@ -32,4 +33,15 @@ impl Model for Machine {
     } };
 
     ghost invariant = { λ m. IsInRange m.key m.control m.access };
+}
+
+impl Machine {
+    // The prefix. Whatever calls a machine has answered, its registers are in their ranges: whoever
+    // holds one sees the registers alone, and learns it here.
+    pub fn prefix(&self) -> u64
+        ensures prefix { result ≡ self.now.prefix }
+        ensures in_range { AreInRange self.now }
+    {
+        self.prefix.get()
+    }
 }
