@@ -17,9 +17,7 @@ impl Machine {
         if !matches!(register, 0 | 1 | 2 | 5 | 7 | 8 | 13) {
             return Err(Condition::BadNumber);
         }
-        let mut control = self.control;
-        control[register as usize] = value;
-        *self = Machine { control, ..*self };
+        self.control[register as usize] = value;
         Ok(())
     }
 
@@ -31,9 +29,7 @@ impl Machine {
         if register > 15 || value >= 1 << 32 {
             return Err(Condition::BadNumber);
         }
-        let mut access = self.access;
-        access[register as usize] = value as u32;
-        *self = Machine { access, ..*self };
+        self.access[register as usize] = value as u32;
         Ok(())
     }
 
@@ -47,12 +43,9 @@ impl Machine {
         if key > 15 {
             return Err(Condition::BadNumber);
         }
-        *self = Machine {
-            mode,
-            size,
-            key: key as u8,
-            ..*self
-        };
+        self.mode = mode;
+        self.size = size;
+        self.key = key as u8;
         Ok(())
     }
 }
