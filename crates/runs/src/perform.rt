@@ -2,6 +2,7 @@
 ghost use Rattle.machine.specs.declared.request.Request.TheVariants.{Line};
 ghost use Rattle.machine.specs.Effects.{Performs};
 ghost use Rattle.machine.specs.Law.{GoesOn};
+ghost use Rattle.machine.specs.Registers.{AreInRange};
 
 use arch::call::Call;
 use lookup::kinds::{AccessRegister, Paging};
@@ -93,6 +94,11 @@ pub fn answer<S: Storage, A: Source<AccessRegister>, P: Source<Paging>>(
     ensures law { GoesOn A.Source P.Source
         machine.old (S.view storage.old.beneath) sources.old request
         result machine.new (S.view storage.new.beneath) sources.new }
+    ensures in_range { AreInRange machine.new }
 {
-    perform(machine, storage, sources, request)
+    let outcome = perform(machine, storage, sources, request);
+    // A clause sees a machine's registers and not the ranges that its type keeps them in: the
+    // prefix is asked for since the answer says them.
+    let _ = machine.prefix();
+    outcome
 }
