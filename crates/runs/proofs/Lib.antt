@@ -1,3 +1,4 @@
 pub mod Far
+pub mod Loans
 pub mod Stands
 pub mod Turned
