@@ -4,9 +4,13 @@ use arch::condition::Condition;
 use arch::record::{BlockKey, Word};
 use lookaside::direct_mapped::{DirectMapped, DirectMappedTable};
 use lookaside::round_robin::{RoundRobin, RoundRobinTable};
-use lookup::source::TableWalk;
+use lookup::kinds::Paging;
+use lookup::listed::ask_listed;
+use lookup::page::PageKey;
+use lookup::source::{Source, TableWalk};
+use lookup::trace::CallTrace;
 use machine::{Machine, Operand, Outcome, Request, Sources};
-use runs::run;
+use runs::{run, run_lent};
 use std::process::Abort;
 use std::test::Fail;
 use storage::prefix::Prefixed;
@@ -148,6 +152,74 @@ fn refuses_accesses(rt: HostRuntime) {
     assert_eq!(rt; prefixed.result, Ok(7));
 }
 
+// One page source, lent in turn with an access-register source of its own each time: what was found
+// through the one loan is held in the other.
+#[test]
+fn a_source_is_lent(rt: HostRuntime) {
+    let mut words = tables();
+    let keys = table_keys();
+    let mut storage = Prefixed::new(Sparse {
+        words: &mut words,
+        keys: &keys,
+    });
+    let mut page = stack();
+    let mut first = Sources {
+        access: TableWalk,
+        page: &mut page,
+    };
+    let mut machine = Machine::new(&mut first);
+    let mut list = [0; 12];
+    assert_eq!(rt; machine.load_control(1, 0x10000), Ok(()));
+    assert_eq!(rt; machine.load_mode(1, 2, 3), Ok(()));
+    let walked = machine.fetch(&mut storage, &mut first, operand(0, 0x103120), &mut list);
+    assert_eq!(rt; walked.result, Ok(7));
+    assert_eq!(rt; walked.count, 2);
+    let mut access = stack();
+    let mut second = Sources {
+        access: &mut access,
+        page: &mut page,
+    };
+    let held = machine.fetch(&mut storage, &mut second, operand(0, 0x103120), &mut list);
+    assert_eq!(rt; held.result, Ok(7));
+    assert_eq!(rt; held.count, 0);
+    machine.purge(&mut second, SourceName::Page);
+    let purged = machine.fetch(&mut storage, &mut second, operand(0, 0x103120), &mut list);
+    assert_eq!(rt; purged.count, 2);
+    assert_eq!(rt; machine.prefix(), 0);
+}
+
+// An ask whose addresses go to the places of a list from the second on.
+#[test]
+fn an_ask_goes_on_in_a_list(rt: HostRuntime) {
+    let mut words = tables();
+    let keys = table_keys();
+    let storage = Sparse {
+        words: &mut words,
+        keys: &keys,
+    };
+    let key = PageKey {
+        asce: 0x10000,
+        page: 0x103,
+    };
+    let mut trace = CallTrace::new();
+    let mut list = [1; 7];
+    let mut used = 1;
+    let found = ask_listed::<Paging, _, _, _>(
+        &mut TableWalk,
+        &storage,
+        key,
+        &mut trace,
+        &mut list,
+        &mut used,
+    );
+    assert_eq!(rt; found.is_ok(), true);
+    assert_eq!(rt; used, 3);
+    assert_eq!(rt; list[0], 1);
+    assert_eq!(rt; list[1], 0x10008);
+    assert_eq!(rt; list[2], 0x20018);
+    assert_eq!(rt; list[3], 1);
+}
+
 // What a fetch of a run came to, and how many doublewords its translation fetched.
 fn fetched(
     rt: &impl Abort,
@@ -214,6 +286,47 @@ fn requests_follow_one_another(rt: HostRuntime) -> Result<(), Fail> {
     fetched(&rt, outcomes[2], Ok(7), 2)?;
     fetched(&rt, outcomes[5], Ok(9), 0)?;
     fetched(&rt, outcomes[7], Err(Condition::PageTranslation), 2)
+}
+
+// A run over two sources that lie apart: what it found is held in them when it is over.
+#[test]
+fn a_run_over_lent_sources(rt: HostRuntime) -> Result<(), Fail> {
+    let mut words = tables();
+    let keys = table_keys();
+    let mut storage = Prefixed::new(Sparse {
+        words: &mut words,
+        keys: &keys,
+    });
+    let mut access = stack();
+    let mut page = stack();
+    let calls = [
+        Request::Line(Call::LoadControl {
+            register: 1,
+            value: 0x10000,
+        }),
+        Request::Line(Call::LoadMode {
+            mode: 1,
+            size: 2,
+            key: 3,
+        }),
+        Request::Fetch {
+            register: 0,
+            address: 0x103120,
+        },
+    ];
+    let mut outcomes = [Outcome::Purged; 3];
+    let ran = run_lent(&mut storage, &mut access, &mut page, &calls, &mut outcomes);
+    assert_eq!(rt; ran, Ok(()));
+    fetched(&rt, outcomes[2], Ok(7), 2)?;
+    let key = PageKey {
+        asce: 0x10000,
+        page: 0x103,
+    };
+    let mut trace = CallTrace::new();
+    let held = <Stack as Source<Paging>>::ask(&mut page, &storage, key, &mut trace);
+    assert_eq!(rt; held.is_ok(), true);
+    assert_eq!(rt; trace.len(), 0);
+    Ok(())
 }
 
 // The same text over sources of three makes: addresses and exceptions agree where nothing held is old, and counts
