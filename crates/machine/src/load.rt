@@ -7,7 +7,8 @@ use crate::mode::{AddressSize, Mode};
 use crate::registers::Machine;
 use arch::condition::Condition;
 
-// Each load refuses a number outside what is named, and changes nothing then.
+// Each load refuses a number outside what is named, and changes nothing then. The register set is
+// written whole. A register written by itself takes less time, but a load is a small part of any run.
 impl Machine {
     // Sets one of the control registers that translation looks at.
     pub fn load_control(&mut self, register: u64, value: u64) -> Result<(), Condition>
@@ -17,7 +18,9 @@ impl Machine {
         if !matches!(register, 0 | 1 | 2 | 5 | 7 | 8 | 13) {
             return Err(Condition::BadNumber);
         }
-        self.control[register as usize] = value;
+        let mut control = self.control;
+        control[register as usize] = value;
+        *self = Machine { control, ..*self };
         Ok(())
     }
 
@@ -29,7 +32,9 @@ impl Machine {
         if register > 15 || value >= 1 << 32 {
             return Err(Condition::BadNumber);
         }
-        self.access[register as usize] = value as u32;
+        let mut access = self.access;
+        access[register as usize] = value as u32;
+        *self = Machine { access, ..*self };
         Ok(())
     }
 
@@ -43,9 +48,12 @@ impl Machine {
         if key > 15 {
             return Err(Condition::BadNumber);
         }
-        self.mode = mode;
-        self.size = size;
-        self.key = key as u8;
+        *self = Machine {
+            mode,
+            size,
+            key: key as u8,
+            ..*self
+        };
         Ok(())
     }
 }

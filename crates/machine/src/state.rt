@@ -54,7 +54,7 @@ impl Machine {
         let prefix = Prefix::try_from(prefix)?;
         storage.load_prefix(prefix);
         sources.purge_both();
-        self.prefix = prefix;
+        *self = Machine { prefix, ..*self };
         Ok(())
     }
 
