@@ -10,7 +10,8 @@ use arch::condition::Condition;
 use storage::storage::Storage;
 
 // Asks a source, and writes each address asked for to the places of the list from the first unused
-// one on, which are then used; no other place changes. They are noted in an empty trace on the way.
+// one on, which are then used; no other place changes. They are noted in an empty trace on the way,
+// which has them afterwards.
 pub fn ask_listed<K: Kind, B: Source<K>, S: Storage, T: Trace>(
     source: &mut B,
     storage: &S,
@@ -25,6 +26,8 @@ pub fn ask_listed<K: Kind, B: Source<K>, S: Storage, T: Trace>(
     ensures gives { WritesList K.most_reads
         (asked (B.shows source.old key) (K.fresh (S.view storage.now).word key))
         list.old used.old list.new used.new result }
+    ensures trace { T.addresses trace.new
+        ≡ (asked (B.shows source.old key) (K.fresh (S.view storage.now).word key)).trace }
     ensures keeps { Kept K.fits (K.fresh (S.view storage.now).word) (B.holds source.old)
         (B.holds source.new) }
     ensures after { B.after_ask source.old (K.fresh (S.view storage.now).word) key source.new }

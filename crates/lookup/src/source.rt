@@ -78,8 +78,8 @@ impl<K: Kind> Source<K> for TableWalk {
 }
 
 // A source that is lent is one: so two that lie apart, or one that several stacks share in turn, are
-// lent to whoever asks. An ask and a purge leave the same loan, and so the source that it is of is
-// afterwards what they made of it.
+// lent to whoever asks. An ask and a purge leave the same loan, so that whoever lent the source finds
+// it as they left it.
 impl<K: Kind, B: Source<K>> Source<K> for &mut B {
     ghost shows = { λ s k. B.shows s.now k };
 
