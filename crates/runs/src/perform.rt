@@ -81,7 +81,8 @@ fn perform<S: Storage, A: Source<AccessRegister>, P: Source<Paging>>(
 }
 
 // Makes a call. Whatever was called before, from the new call on: where the machine and its sources
-// stand as the law of runs has it, the call keeps the law, and they stand so after it.
+// stand as the law of runs has it, the call keeps the law, and they stand so after it. The machine's
+// registers are in their ranges then.
 pub fn answer<S: Storage, A: Source<AccessRegister>, P: Source<Paging>>(
     machine: &mut Machine,
     storage: &mut Prefixed<S>,
@@ -97,8 +98,8 @@ pub fn answer<S: Storage, A: Source<AccessRegister>, P: Source<Paging>>(
     ensures in_range { AreInRange machine.new }
 {
     let outcome = perform(machine, storage, sources, request);
-    // A clause sees a machine's registers and not the ranges that its type keeps them in: the
-    // prefix is asked for since the answer says them.
+    // A clause sees a machine's registers and not the ranges that its type keeps them in. The prefix
+    // is asked for since its contract says them.
     let _ = machine.prefix();
     outcome
 }

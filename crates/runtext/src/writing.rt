@@ -12,7 +12,7 @@ use crate::text::lay;
 use crate::{BYTES, Counts, NO_LINES, NO_ROOM, Refusal};
 
 // Whether the text of a run has no more than so many bytes. A run may be of any length: what comes
-// after the first line that has more is not looked at.
+// after the line with which it has more is not looked at.
 fn fits(run: &Run<'_>, most: usize) -> bool
     requires { most ≤ byte_limit }
     ensures { Decides result (HasRoom most run.now) }
